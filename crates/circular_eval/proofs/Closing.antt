@@ -7,7 +7,7 @@ use Rattle.solutions.proofs.Loops.{ends_meets}
 use Rattle.solutions.proofs.Runs.{ends_more, or_left, or_right}
 use Rattle.equation_law.specs.declared.coding.Instance.{Instance as CodedInstance}
 use Rattle.equation_law.specs.Checked.{IsInstance, IsProgram}
-use Rattle.equation_law.specs.Codes.{IsNamingOf, Naming, instance_by, value_by}
+use Rattle.equation_law.specs.Codes.{Naming, instance_by, value_by}
 use Rattle.equation_law.specs.Equations.{HasValue, equations_of}
 use Rattle.equation_law.specs.Loops.{order_in}
 use Rattle.equation_law.specs.Names.{Instance, same_instance}
@@ -19,10 +19,12 @@ use Rattle.equation_law.proofs.Solution.{one}
 use Rattle.memo_cells.specs.declared.keys.Slot.{Slot}
 use Rattle.memo_cells.specs.declared.view.Frame.{Frame}
 use Rattle.memo_cells.specs.declared.view.View.{View}
+use Rattle.memo_cells.specs.Agreeing.{Agrees}
 use Rattle.memo_cells.specs.Naming.{IsCellOf}
 use Rattle.memo_cells.specs.Standing.{AreApproximations, Knows, MaySeal}
 use Rattle.memo_cells.specs.Steps.{AreSealed}
 use Rattle.memo_cells.specs.Views.{Has, IsAtLeast}
+use Rattle.memo_cells.proofs.Agreeing.{IsOpen}
 use Rattle.memo_cells.proofs.Naming.{knows_later, stands_later}
 use Rattle.memo_cells.proofs.Showing.{not_both}
 use Rattle.circular_eval.specs.declared.members.Member.{Member}
@@ -114,7 +116,7 @@ placed_or : (p : Program) (f : Frame) (v : View) (i : Instance) (x : Value) (o :
 placed_or p f v i x None h = inl h
 placed_or p f v i x (Some s) h = inr refl
 
-module _ (p : Program) (names : Naming) (named : IsNamingOf p names) (good : IsProgram p) (v : View) (near : AreApproximations p v) (f : Frame) (start : CodedInstance) (es : Members) (set : AreMembers p names f v start es) where
+module _ (p : Program) (names : Naming) (good : IsProgram p) (v : View) (agrees : Agrees p v.made names) (near : AreApproximations p v) (by : IsOpen p v.made) (f : Frame) (start : CodedInstance) (es : Members) (set : AreMembers p names f v start es) where
   abbrev T : Instance → Value
   T = local_value p names es
 
@@ -153,7 +155,7 @@ module _ (p : Program) (names : Naming) (named : IsNamingOf p names) (good : IsP
     current i h =
         let o = opened_is p names es i h in
         let m = is_member o.0 o.1 in
-        subst (λ (j : Instance). IsInstance p j × ((equations_of p).circular j ≡ true) × IsCurrent p names v es j) (sym o.3) (m.2.instance, m.2.is_circular, all o.0 o.1 o.2 names named)
+        subst (λ (j : Instance). IsInstance p j × ((equations_of p).circular j ≡ true) × IsCurrent p names v es j) (sym o.3) (m.2.instance, m.2.is_circular, all o.0 o.1 o.2 names agrees)
 
     slot_of : (i : Instance) → is_in same_instance (opened p names es) i ≡ true → (s : ℕ) × Has (map (λ x. x.0) slots) s × IsCellOf p f v i s
     slot_of i h =
@@ -172,17 +174,17 @@ module _ (p : Program) (names : Naming) (named : IsNamingOf p names) (good : IsP
     pub holds : (i : Instance) → is_in same_instance (opened p names es) i ≡ true → Holds (equations_of p) (order_in p) (opened p names es) T i
     holds i h =
         let c = current i h in
-        record { is_circular = c.1; value = c.2.value; demands = c.2.demands; ends = ends_more reads_closed (ends_of p names good v near f start es set i c.0 c.2.value c.2.demands c.2.ends); below = c.2.below }
+        record { is_circular = c.1; value = c.2.value; demands = c.2.demands; ends = ends_more reads_closed (ends_of p names good v near by f start es set i c.0 c.2.value c.2.demands c.2.ends); below = c.2.below }
 
     meets_known : (i j : Instance) → is_in same_instance (opened p names es) i ≡ true → Meets (Read (equations_of p) (opened p names es) T) ((equations_of p).equation i) j → (is_in same_instance (opened p names es) j ≡ true) ⊎ Knows p v j
     meets_known i j h m =
         let c = current i h in
-        let r = ends_meets one_read (ends_of p names good v near f start es set i c.0 c.2.value c.2.demands c.2.ends) m in
+        let r = ends_meets one_read (ends_of p names good v near by f start es set i c.0 c.2.value c.2.demands c.2.ends) m in
         read_known j r.0 r.1
 
     pub may_seal : MaySeal p f v (map (λ x. x.0) slots)
     unfolding equations_of
-    may_seal = record { set = opened p names es; values = T; shown = values_shown p names good v near f start es set; slot_of = slot_of; stands = stands; instances = λ i h. (current i h).0; holds = holds; known = meets_known }
+    may_seal = record { set = opened p names es; values = T; shown = values_shown p names good v near by f start es set; slot_of = slot_of; stands = stands; instances = λ i h. (current i h).0; holds = holds; known = meets_known }
 
     -- then each member is seen sealed
     pub member_sealed : (w : View) → IsAtLeast v w → AreSealed v w (map (λ x. x.0) slots) → (e : CodedInstance × Member) → Has es e → Knows p w (instance_by p names e.0)

@@ -2,12 +2,13 @@
 use Rattle.std.proofs.Common.{◌≡◌, ◌<◌, ℕ, List, [], ◌∷◌, Option, Some, None, Result, Ok, Err, length, map, slice_get, refl, sym, subst, arith}
 use Rattle.equation_law.specs.declared.coding.Instance.{Instance as CodedInstance}
 use Rattle.equation_law.specs.declared.system.System.{System}
-use Rattle.equation_law.specs.Codes.{ByEachNaming, instance_by, source_names, value_by}
+use Rattle.equation_law.specs.Codes.{instance_by, value_by}
 use Rattle.equation_law.specs.Equations.{HasValue}
-use Rattle.equation_law.specs.Program.{Program, text_of}
-use Rattle.equation_law.proofs.Codes.{sources_named}
+use Rattle.equation_law.specs.Program.{Program}
+use Rattle.made_trees.specs.Made.{naming_by_makers}
 use Rattle.memo_cells.specs.declared.keys.Slot.{Slot}
 use Rattle.memo_cells.specs.declared.view.Frame.{Frame}
+use Rattle.memo_cells.specs.Agreeing.{ByEachAgreeing}
 use Rattle.memo_cells.specs.Standing.{Knows, MaySeal}
 use Rattle.memo_cells.specs.Steps.{AreSealed}
 use Rattle.memo_cells.specs.Views.{Has}
@@ -24,7 +25,8 @@ use Rattle.circular_eval.specs.Advancing.{AnswersFault}
 use Rattle.circular_eval.specs.Left.{left}
 use Rattle.circular_eval.specs.Local.{AreSlots, Members}
 use Rattle.circular_eval.specs.Visiting.{Admits, Advances, AnswersClose, AnswersPass, AreConfirmed, Begins, Closes, GoesAgain, GoesOnWith, IsNewAt, IsReady, Passes, Visits}
-use Rattle.circular_eval.proofs.Admitting.{local_is_here, near_is, program_is}
+use Rattle.memo_cells.proofs.Agreeing.{agrees_before}
+use Rattle.circular_eval.proofs.Admitting.{local_is_here, near_is, open_is, program_is}
 use Rattle.circular_eval.proofs.Closing.{may_seal, member_sealed}
 use Rattle.circular_eval.proofs.Entries.{at_has}
 use Rattle.circular_eval.proofs.Going.{program_on, ready_then, with_itself, with_then}
@@ -97,8 +99,10 @@ head_of (e ∷ es) h = (e, refl)
 pub first_new : (s : System) (d : Held) (l : Local) → IsReady s d l → length l.members.entries ≡ 0 → (i : CodedInstance) → i ≡ l.start → IsNewAt d l i None
 first_new s d l r none i is =
     let here = local_is_here s d l r in
-    subst (λ (j : CodedInstance). IsNewAt d l j None) (sym is)
-    (λ names named. let at = here names named in record { instance = at.instance; coded = at.coded; is_circular = at.is_circular; absent = λ m. nothing l.members.entries none m.0 m.1; led = refl })
+    subst (λ (j : CodedInstance). IsNewAt d l j None) (sym is) (
+      λ names agrees. let at = here names agrees in record { instance = at.instance; coded = at.coded; is_circular = at.is_circular; absent = λ m. nothing l.members.entries none m.0 m.1; led = refl },
+      (here (naming_by_makers (program_at d) d.view.made) (open_is s d l r)).known,
+    )
 
 pub begin_none : (s : System) (d : Held) (l : Local) (u : Unit) → IsReady s d l → 0 < length l.members.entries → Begins d d l l (Ok u)
 begin_none s d l u r some = record { goes = with_itself s d l r; some = some; fault = tt }
@@ -135,37 +139,38 @@ module _ (d e f : Held) (l m n : Local) (h : GoesOnWith d e l m) where
     confirmed = subst (λ (u : Program). AreConfirmed u f.view n.members.entries) (sym (program_on d f on_goes.on)) (close_back d e f l m n h (Ok None) closed)
 
     module _ (slots : List Slot) (are : AreSlots n.members.entries slots) where
-      on_may_by : ByEachNaming (program_at f) (λ names. MaySeal (program_at f) f.frame f.view (map (λ x. x.0) slots))
-      on_may_by names named =
-          may_seal (program_at f) names named (program_is s f n ready) f.view (near_is s f n ready) f.frame n.start n.members.entries (local_is_here s f n ready names named).set confirmed slots are
-
       pub on_may : MaySeal (program_at f) f.frame f.view (map (λ x. x.0) slots)
-      on_may = on_may_by (source_names (text_of (program_at f))) (sources_named (program_at f))
+      on_may =
+          let some = naming_by_makers (program_at f) f.view.made in
+          let by = open_is s f n ready in
+          may_seal (program_at f) some (program_is s f n ready) f.view by (near_is s f n ready) by f.frame n.start n.members.entries (local_is_here s f n ready some by).set confirmed slots are
 
       module _ (g : Held) (on : ReadsOn f g) (sealed : AreSealed f.view g.view (map (λ x. x.0) slots)) where
-        each : (x : CodedInstance × Member) → Has n.members.entries x → ByEachNaming (program_at f) (λ names. Knows (program_at f) g.view (instance_by (program_at f) names x.0))
-        each x there names named =
-            member_sealed (program_at f) names named (program_is s f n ready) f.view (near_is s f n ready) f.frame n.start n.members.entries (local_is_here s f n ready names named).set confirmed slots are g.view on.on.kept sealed x there
+        each : (x : CodedInstance × Member) → Has n.members.entries x → ByEachAgreeing (program_at f) f.view.made (λ names. Knows (program_at f) g.view (instance_by (program_at f) names x.0))
+        each x there names agrees =
+            member_sealed (program_at f) names (program_is s f n ready) f.view agrees (near_is s f n ready) (open_is s f n ready) f.frame n.start n.members.entries (local_is_here s f n ready names agrees).set confirmed slots are g.view on.on.kept sealed x there
 
-        each_here : (x : CodedInstance × Member) → Has n.members.entries x → ByEachNaming (program_at d) (λ names. Knows (program_at d) g.view (instance_by (program_at d) names x.0))
-        each_here x there = subst (λ (u : Program). ByEachNaming u (λ names. Knows u g.view (instance_by u names x.0))) (program_on d f on_goes.on) (each x there)
+        each_here : (x : CodedInstance × Member) → Has n.members.entries x → ByEachAgreeing (program_at d) f.view.made (λ names. Knows (program_at d) g.view (instance_by (program_at d) names x.0))
+        each_here x there = subst (λ (u : Program). ByEachAgreeing u f.view.made (λ names. Knows u g.view (instance_by u names x.0))) (program_on d f on_goes.on) (each x there)
 
-        has_each : (x : CodedInstance × Member) → Has n.members.entries x → ByEachNaming (program_at f) (λ names. HasValue (program_at f) (instance_by (program_at f) names x.0) (value_by names x.1.value))
-        has_each x there names named =
-            member_has (program_at f) names named (program_is s f n ready) f.view (near_is s f n ready) f.frame n.start n.members.entries (local_is_here s f n ready names named).set confirmed slots are x there
+        has_each : (x : CodedInstance × Member) → Has n.members.entries x → ByEachAgreeing (program_at f) f.view.made (λ names. HasValue (program_at f) (instance_by (program_at f) names x.0) (value_by names x.1.value))
+        has_each x there names agrees =
+            member_has (program_at f) names (program_is s f n ready) f.view agrees (near_is s f n ready) (open_is s f n ready) f.frame n.start n.members.entries (local_is_here s f n ready names agrees).set confirmed slots are x there
 
-        each_value : (x : CodedInstance × Member) → Has n.members.entries x → ByEachNaming (program_at d) (λ names. HasValue (program_at d) (instance_by (program_at d) names x.0) (value_by names x.1.value))
-        each_value x there = subst (λ (u : Program). ByEachNaming u (λ names. HasValue u (instance_by u names x.0) (value_by names x.1.value))) (program_on d f on_goes.on) (has_each x there)
+        each_value : (x : CodedInstance × Member) → Has n.members.entries x → ByEachAgreeing (program_at d) f.view.made (λ names. HasValue (program_at d) (instance_by (program_at d) names x.0) (value_by names x.1.value))
+        each_value x there = subst (λ (u : Program). ByEachAgreeing u f.view.made (λ names. HasValue u (instance_by u names x.0) (value_by names x.1.value))) (program_on d f on_goes.on) (has_each x there)
 
-        start_sealed : ByEachNaming (program_at d) (λ names. Knows (program_at d) g.view (instance_by (program_at d) names n.start))
+        start_sealed : ByEachAgreeing (program_at d) f.view.made (λ names. Knows (program_at d) g.view (instance_by (program_at d) names n.start))
         start_sealed =
             let x = head_of n.members.entries (closed.goes.some some) in
-            let at = local_is_here s f n ready (source_names (text_of (program_at f))) (sources_named (program_at f)) in
-            subst (λ (i : CodedInstance). ByEachNaming (program_at d) (λ names. Knows (program_at d) g.view (instance_by (program_at d) names i))) (at.set.first x.0 x.1) (each_here x.0 (at_has n.members.entries 0 x.0 x.1))
+            let at = local_is_here s f n ready (naming_by_makers (program_at f) f.view.made) (open_is s f n ready) in
+            subst (λ (i : CodedInstance). ByEachAgreeing (program_at d) f.view.made (λ names. Knows (program_at d) g.view (instance_by (program_at d) names i))) (at.set.first x.0 x.1) (each_here x.0 (at_has n.members.entries 0 x.0 x.1))
 
         pub on_closed : Advances d g l n (Ok turn.Closed)
         on_closed = record {
           goes = with_then d f g l n n on_goes (goes_read s f g n n ready on (record { start = refl; entries = refl; need = refl; saved = refl }));
           begun = closed.goes.some some;
-          answer = λ names named. record { start = start_sealed names named; members = λ x there. each_here x there names named; values = λ x there. each_value x there names named };
+          answer = λ names agrees.
+              let before = agrees_before (program_at d) on.on.kept.made agrees in
+              record { start = start_sealed names before; members = λ x there. each_here x there names before; values = λ x there. each_value x there names before };
         }

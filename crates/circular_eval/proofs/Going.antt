@@ -1,11 +1,10 @@
 -- How the steps of a local set go on from each other.
-use Rattle.std.proofs.Common.{◌≡◌, ℕ, ◌<◌, zero, suc, true, List, Option, Some, None, slice_get, inr, refl, sym, ap, subst, ◌∙◌, arith}
+use Rattle.std.proofs.Common.{◌≡◌, ℕ, ◌<◌, zero, suc, true, List, [], Option, Some, None, slice_get, inr, refl, sym, ap, subst, ◌∙◌, arith}
 use Rattle.solutions.specs.Leading.{none}
 use Rattle.equation_law.specs.declared.coding.Instance.{Instance as CodedInstance}
 use Rattle.equation_law.specs.declared.system.System.{System}
-use Rattle.equation_law.specs.Codes.{ByEachNaming, Naming, instance_by}
+use Rattle.equation_law.specs.Codes.{Naming, instance_by}
 use Rattle.equation_law.specs.Equations.{equations_of, kind_in}
-use Rattle.equation_law.specs.Keys.{HasCode, HasElement, IsElementCode}
 use Rattle.equation_law.specs.Loops.{Chain}
 use Rattle.equation_law.specs.Names.{Instance}
 use Rattle.equation_law.specs.Program.{Program}
@@ -13,9 +12,12 @@ use Rattle.equation_law.specs.Systems.{program_of}
 use Rattle.equation_law.specs.Values.{Value}
 use Rattle.memo_cells.specs.declared.view.Frame.{Frame}
 use Rattle.memo_cells.specs.declared.view.View.{View}
-use Rattle.memo_cells.specs.Claiming.{ClaimsKeys, FillsCells}
+use Rattle.memo_cells.specs.Agreeing.{ByEachAgreeing, HasCodeAt, IsElementAt}
+use Rattle.memo_cells.specs.Claiming.{ClaimsKeys, CountsCode, FillsCells}
+use Rattle.memo_cells.specs.Standing.{IsPassOf}
 use Rattle.memo_cells.specs.Views.{Has, IsAtLeast}
 use Rattle.memo_cells.specs.Working.{GoesOn, Held, program_at}
+use Rattle.memo_cells.proofs.Agreeing.{agrees_before}
 use Rattle.memo_cells.proofs.Claiming.{chain_more, claims_same, claims_then, claims_words, fills_words}
 use Rattle.memo_cells.proofs.Raising.{Higher}
 use Rattle.memo_cells.proofs.Showing.{has_code_more}
@@ -42,33 +44,37 @@ member_chain p names f v l h k e at = led_chain p names f v l.start l.members.en
 pub claims_more : (p : Program) (i : Instance) (u v w : View) → ClaimsKeys p i u v → ClaimsKeys p i v w → IsAtLeast v w → ClaimsKeys p i u w
 claims_more p i u v w a b kept = claims_then p i i u v w none a kept b
 
--- the words of a value that a lower assignment reaches
-module _ (p : Program) (i j : Instance) (c : Chain p i j) (T : Instance → Value) (is_circular : (equations_of p).circular j ≡ true) (x : Value) (t : Higher p T j x) (codes : List ℕ) (elements : (k : ℕ) → Has codes k → IsElementCode p (kind_in p j) k × HasCode p (kind_in p j) x k) where
-  counted : (k : ℕ) → Has codes k → IsElementCode p (kind_in p j) k × HasElement p j k
-  counted k among =
-      let e = elements k among in
-      (e.0, inr (t.values, t.lower, is_circular, has_code_more p (kind_in p j) x (t.values j) k (t.reaches is_circular) e.1))
+-- the words of a value that a lower assignment reaches, by what a pass knows
+module _ (f : Frame) (v : View) (own : IsPassOf f v) (i j : Instance) (c : Chain (program_of f.system.value) i j) (T : Instance → Value) (is_circular : (equations_of (program_of f.system.value)).circular j ≡ true) (x : Value) (t : Higher (program_of f.system.value) T j x) (codes : List ℕ) where
+  abbrev p : Program
+  p = program_of f.system.value
 
-  pub claims_raised : (v w : View) → ClaimsWords p v w j codes → ClaimsKeys p i v w
-  claims_raised v w h = claims_words p i j c codes counted v w h
+  module _ (elements : (k : ℕ) → Has codes k → IsElementAt p v.made (kind_in p j) k × HasCodeAt p v.made (kind_in p j) x k) where
+    counted : (k : ℕ) → Has codes k → IsElementAt p v.made (kind_in p j) k × CountsCode p v.made j (kind_in p j) k
+    counted k among =
+        let e = elements k among in
+        (e.0, inr (t.values, t.lower, is_circular, has_code_more p v.made (kind_in p j) x (t.values j) k (t.reaches is_circular) e.1))
 
-  pub fills_raised : (f : Frame) (v : View) → LacksWord p f v j codes → FillsCells p i f v
-  fills_raised f v h = fills_words p i j c codes counted f v h
+    pub claims_raised : (u : View) → ClaimsWords p u v j codes → ClaimsKeys p i u v
+    claims_raised u h = claims_words f v [] own i j c codes counted u h
+
+    pub fills_raised : LacksWord p f v j codes → FillsCells p i f v
+    fills_raised h = fills_words f v [] own i j c codes counted h
 
 -- the program stays
 pub program_on : (d e : Held) → GoesOn d e → program_at e ≡ program_at d
 program_on d e on = ap (λ (f : Frame). program_of f.system.value) on.cells
 
 -- what a call claimed, said of the program of what was held before
-pub claims_on : (a b : Held) → GoesOn a b → (i j : CodedInstance) → i ≡ j → (v w : View) → ByEachNaming (program_at b) (λ names. ClaimsKeys (program_at b) (instance_by (program_at b) names i) v w) → ByEachNaming (program_at a) (λ names. ClaimsKeys (program_at a) (instance_by (program_at a) names j) v w)
-claims_on a b on i j is v w h = subst (λ (u : Program × CodedInstance). ByEachNaming u.0 (λ names. ClaimsKeys u.0 (instance_by u.0 names u.1) v w)) (λ k. (program_on a b on k, is k)) h
+pub claims_on : (a b : Held) → GoesOn a b → (i j : CodedInstance) → i ≡ j → (v w : View) → ByEachAgreeing (program_at b) w.made (λ names. ClaimsKeys (program_at b) (instance_by (program_at b) names i) v w) → ByEachAgreeing (program_at a) w.made (λ names. ClaimsKeys (program_at a) (instance_by (program_at a) names j) v w)
+claims_on a b on i j is v w h = subst (λ (u : Program × CodedInstance). ByEachAgreeing u.0 w.made (λ names. ClaimsKeys u.0 (instance_by u.0 names u.1) v w)) (λ k. (program_on a b on k, is k)) h
 
 pub with_itself : (s : System) (d : Held) (l : Local) → IsReady s d l → GoesOnWith d d l l
 with_itself s d l r = record {
   on = goes_itself d r.own;
   local = subst (λ (q : System). IsLocalByEach (program_of q) d.frame d.view l) (sym r.same) r.local;
   start = refl;
-  claims = λ names named. claims_same (program_at d) (instance_by (program_at d) names l.start) d.view d.view refl;
+  claims = λ names agrees. claims_same (program_at d) (instance_by (program_at d) names l.start) d.view d.view refl;
   some = λ x. x;
 }
 
@@ -78,9 +84,9 @@ with_then a b c l m n x y =
       on = goes_then a b c x.on y.on;
       local = subst (λ (f : Frame). IsLocalByEach (program_of f.system.value) f c.view n) x.on.cells y.local;
       start = y.start ∙ x.start;
-      claims = λ names named.
-          claims_more (program_at a) (instance_by (program_at a) names l.start) a.view b.view c.view (x.claims names named)
-          (claims_on a b x.on m.start l.start x.start b.view c.view y.claims names named) y.on.kept;
+      claims = λ names agrees.
+          claims_more (program_at a) (instance_by (program_at a) names l.start) a.view b.view c.view (x.claims names (agrees_before (program_at a) y.on.kept.made agrees))
+          (claims_on a b x.on m.start l.start x.start b.view c.view y.claims names agrees) y.on.kept;
       some = λ h. y.some (x.some h);
     }
 

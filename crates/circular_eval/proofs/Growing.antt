@@ -15,12 +15,13 @@ use Rattle.expr_eval.specs.declared.saved.Saved.{Saved}
 use Rattle.memo_cells.specs.declared.keys.Slot.{Slot}
 use Rattle.memo_cells.specs.declared.view.Frame.{Frame}
 use Rattle.memo_cells.specs.declared.view.View.{View}
+use Rattle.memo_cells.specs.Agreeing.{IsKnownInstance, IsKnownValue}
 use Rattle.memo_cells.specs.Standing.{IsShown}
 use Rattle.memo_cells.proofs.More.{at_least_itself}
 use Rattle.circular_eval.specs.declared.local.Local.{Local}
 use Rattle.circular_eval.specs.declared.members.Member.{Member}
 use Rattle.circular_eval.specs.Left.{code_bound, left, member_bound, room, rooms}
-use Rattle.circular_eval.specs.Local.{AreMembers, IsKept, IsLedBy, IsLocal, IsMember, IsNeedOf, IsNumberOf, IsPlaced, IsTied, Members, reads_here, with_value}
+use Rattle.circular_eval.specs.Local.{AreMembers, IsKept, IsLedBy, IsLocal, IsMember, IsNeedOf, IsNumberOf, IsPlaced, Members, reads_here, with_value}
 use Rattle.circular_eval.specs.Visiting.{IsNew}
 use Rattle.circular_eval.proofs.Entries.{at_either, at_has, at_more, changed_at, length_changed, length_more, rooms_less, rooms_more, stays_at}
 use Rattle.circular_eval.proofs.Left.{missing_most, product_less}
@@ -31,6 +32,7 @@ pub local_kept : (p : Program) (names : Naming) (f : Frame) (v : View) (l m : Lo
 local_kept p names f v l m s e n saved h = record {
   instance = subst (λ (i : CodedInstance). IsInstance p (instance_by p names i)) (sym s) h.instance;
   coded = subst (λ (i : CodedInstance). IsCoded p i) (sym s) h.coded;
+  known = subst (λ (i : CodedInstance). IsKnownInstance p v.made i) (sym s) h.known;
   is_circular = subst (λ (i : CodedInstance). (equations_of p).circular (instance_by p names i) ≡ true) (sym s) h.is_circular;
   set = subst (λ (x : CodedInstance × Members). AreMembers p names f v x.0 x.1) (λ i. (sym s i, sym e i)) h.set;
   need = subst (λ (x : Members × Option (ℕ × CodedInstance)). IsNeedOf p names x.0 x.1) (λ i. (sym e i, sym n i)) h.need;
@@ -74,7 +76,7 @@ led_first p names es start i (Some b) e h = absurd (let low : b < length es = h.
 -- what a new member's value has to be
 pub record IsFit (p : Program) (names : Naming) (f : Frame) (v : View) (i : Instance) (m : Member) : Type 0 where
   pub elements : AreElements p m.value
-  pub tied : IsTied p names m.value
+  pub known : IsKnownValue v.made m.value
   pub fits : FitsKind (kind_in p i) (value_by names m.value)
   pub shown : IsShown p v i (value_by names m.value)
   pub placed : IsPlaced p f v i (value_by names m.value) m.slot
@@ -84,15 +86,15 @@ module _ (p : Program) (names : Naming) (f : Frame) (v : View) (l : Local) (h : 
   es = l.members.entries
 
   -- one more
-  module _ (i : CodedInstance) (m : Member) (new : IsNew p names l i m.by) (fit : IsFit p names f v (instance_by p names i) m) where
+  module _ (i : CodedInstance) (m : Member) (new : IsNew p names l i m.by) (known : IsKnownInstance p v.made i) (fit : IsFit p names f v (instance_by p names i) m) where
     abbrev more : Members
     more = es ++ (i, m) ∷ []
 
     member_more : (k : ℕ) (e : CodedInstance × Member) → IsMember p names f v es l.start k e → IsMember p names f v more l.start k e
-    member_more k e a = record { instance = a.instance; coded = a.coded; is_circular = a.is_circular; elements = a.elements; tied = a.tied; fits = a.fits; shown = a.shown; placed = a.placed; led = led_more p names es (i, m) l.start k e.0 e.1.by a.led }
+    member_more k e a = record { instance = a.instance; coded = a.coded; is_circular = a.is_circular; elements = a.elements; known = a.known; fits = a.fits; shown = a.shown; placed = a.placed; led = led_more p names es (i, m) l.start k e.0 e.1.by a.led }
 
     member_new : IsMember p names f v more l.start (length es) (i, m)
-    member_new = record { instance = new.instance; coded = new.coded; is_circular = new.is_circular; elements = fit.elements; tied = fit.tied; fits = fit.fits; shown = fit.shown; placed = fit.placed; led = led_more p names es (i, m) l.start (length es) i m.by new.led }
+    member_new = record { instance = new.instance; coded = new.coded; is_circular = new.is_circular; elements = fit.elements; known = (known, fit.known); fits = fit.fits; shown = fit.shown; placed = fit.placed; led = led_more p names es (i, m) l.start (length es) i m.by new.led }
 
     members_at : (k : ℕ) (e : CodedInstance × Member) → slice_get more k ≡ Some e → IsMember p names f v more l.start k e
     members_at k e at =
@@ -118,14 +120,15 @@ module _ (p : Program) (names : Naming) (f : Frame) (v : View) (l : Local) (h : 
     local_more n s q k e = record {
       instance = subst (λ (k : CodedInstance). IsInstance p (instance_by p names k)) (sym s) h.instance;
       coded = subst (λ (k : CodedInstance). IsCoded p k) (sym s) h.coded;
+      known = subst (λ (k : CodedInstance). IsKnownInstance p v.made k) (sym s) h.known;
       is_circular = subst (λ (k : CodedInstance). (equations_of p).circular (instance_by p names k) ≡ true) (sym s) h.is_circular;
       set = subst (λ (x : CodedInstance × Members). AreMembers p names f v x.0 x.1) (λ j. (sym s j, sym e j)) (record { first = first_more; members = members_at; different = different_more });
       need = subst (λ (x : Members × Option (ℕ × CodedInstance)). IsNeedOf p names x.0 x.1) (λ j. (sym e j, sym q j)) (need_more p names es (i, m) l.need h.need);
-      saved = subst (λ (x : Members × Option Saved). IsKept f.system.value (reads_here p v x.0) x.1) (λ j. (sym e j, sym k j)) (kept_on p v v (at_least_itself v) es more (still_with p es (i, m)) f.system.value l.saved h.saved);
+      saved = subst (λ (x : Members × Option Saved). IsKept f.system.value (reads_here p v x.0) x.1) (λ j. (sym e j, sym k j)) (kept_on p v v (at_least_itself v) es more (still_with p v.made es (i, m)) f.system.value l.saved h.saved);
     }
 
   -- one with another value
-  module _ (n : ℕ) (x : CodedValue) (d : CodedInstance × Member) (at : slice_get es n ≡ Some d) (some : IsSome d.1.slot) (elements : AreElements p x) (tied : IsTied p names x) (fits : FitsKind (kind_in p (instance_by p names d.0)) (value_by names x)) (shown : IsShown p v (instance_by p names d.0) (value_by names x)) where
+  module _ (n : ℕ) (x : CodedValue) (d : CodedInstance × Member) (at : slice_get es n ≡ Some d) (some : IsSome d.1.slot) (elements : AreElements p x) (known : IsKnownValue v.made x) (fits : FitsKind (kind_in p (instance_by p names d.0)) (value_by names x)) (shown : IsShown p v (instance_by p names d.0) (value_by names x)) where
     abbrev risen : Members
     risen = with_value es n x
 
@@ -140,10 +143,10 @@ module _ (p : Program) (names : Naming) (f : Frame) (v : View) (l : Local) (h : 
     member_raised : IsMember p names f v risen l.start n raised
     member_raised =
         let a = h.set.members n d at in
-        record { instance = a.instance; coded = a.coded; is_circular = a.is_circular; elements = elements; tied = tied; fits = fits; shown = shown; placed = placed_some (instance_by p names d.0) (value_by names d.1.value) (value_by names x) d.1.slot some a.placed; led = led_changed p names es n x l.start n d.0 d.1.by a.led }
+        record { instance = a.instance; coded = a.coded; is_circular = a.is_circular; elements = elements; known = (a.known.0, known); fits = fits; shown = shown; placed = placed_some (instance_by p names d.0) (value_by names d.1.value) (value_by names x) d.1.slot some a.placed; led = led_changed p names es n x l.start n d.0 d.1.by a.led }
 
     member_other : (k : ℕ) (e : CodedInstance × Member) → IsMember p names f v es l.start k e → IsMember p names f v risen l.start k e
-    member_other k e a = record { instance = a.instance; coded = a.coded; is_circular = a.is_circular; elements = a.elements; tied = a.tied; fits = a.fits; shown = a.shown; placed = a.placed; led = led_changed p names es n x l.start k e.0 e.1.by a.led }
+    member_other k e a = record { instance = a.instance; coded = a.coded; is_circular = a.is_circular; elements = a.elements; known = a.known; fits = a.fits; shown = a.shown; placed = a.placed; led = led_changed p names es n x l.start k e.0 e.1.by a.led }
 
     same_entry : (c e : CodedInstance × Member) → e.0 ≡ c.0 → e.1.slot ≡ c.1.slot → e.1.by ≡ c.1.by → e.1.value ≡ c.1.value → e ≡ c
     same_entry c e i s b w = λ j. (i j, record { slot = s j; value = w j; by = b j })
@@ -169,6 +172,7 @@ module _ (p : Program) (names : Naming) (f : Frame) (v : View) (l : Local) (h : 
     local_risen m s q k e = record {
       instance = subst (λ (k : CodedInstance). IsInstance p (instance_by p names k)) (sym s) h.instance;
       coded = subst (λ (k : CodedInstance). IsCoded p k) (sym s) h.coded;
+      known = subst (λ (k : CodedInstance). IsKnownInstance p v.made k) (sym s) h.known;
       is_circular = subst (λ (k : CodedInstance). (equations_of p).circular (instance_by p names k) ≡ true) (sym s) h.is_circular;
       set = subst (λ (u : CodedInstance × Members). AreMembers p names f v u.0 u.1) (λ j. (sym s j, sym e j)) (record { first = first_risen; members = members_risen; different = λ a b i y z. h.set.different a b i (number_before a i y) (number_before b i z) });
       need = subst (λ (u : Members × Option (ℕ × CodedInstance)). IsNeedOf p names u.0 u.1) (λ j. (sym e j, sym q j)) (need_changed p names es n x l.need h.need);
@@ -182,6 +186,7 @@ local_needs p names f v l m k n e at leads s q need saved h =
     record {
       instance = subst (λ (i : CodedInstance). IsInstance p (instance_by p names i)) (sym s) h.instance;
       coded = subst (λ (i : CodedInstance). IsCoded p i) (sym s) h.coded;
+      known = subst (λ (i : CodedInstance). IsKnownInstance p v.made i) (sym s) h.known;
       is_circular = subst (λ (i : CodedInstance). (equations_of p).circular (instance_by p names i) ≡ true) (sym s) h.is_circular;
       set = subst (λ (x : CodedInstance × Members). AreMembers p names f v x.0 x.1) (λ i. (sym s i, sym same i)) h.set;
       need = subst (λ (x : Members × Option (ℕ × CodedInstance)). IsNeedOf p names x.0 x.1) (λ i. (sym same i, sym need i)) (e, at, leads);

@@ -1,6 +1,5 @@
 pub mod Absorbing
 pub mod Admitting
-pub mod Came
 pub mod Closing
 pub mod Ending
 pub mod Entries
@@ -8,6 +7,7 @@ pub mod Finding
 pub mod Following
 pub mod Going
 pub mod Growing
+pub mod Knowing
 pub mod Later
 pub mod Left
 pub mod Looking

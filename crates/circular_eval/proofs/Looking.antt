@@ -1,53 +1,53 @@
 -- What an evaluation under a local set reads.
-use Rattle.std.proofs.Common.{◌≡◌, ℕ, false, true, refl, sym, ap, subst, ◌∙◌, arith, le_refl}
-use Rattle.std.specs.Ordering.{nat_cmp}
+use Rattle.std.proofs.Common.{◌≡◌, ℕ, false, true, [], refl, sym, ap, subst, ◌∙◌, arith, le_refl}
 use Rattle.std.specs.declared.cmp.Ordering.{Ordering}
 use Rattle.ast_grammar.specs.declared.grammar.ClassId.{ClassId}
 use Rattle.attr_rules.specs.declared.kinds.Kind.{Kind}
 use Rattle.attr_rules.specs.declared.kinds.Kind.TheVariants as kinds
-use Rattle.equation_law.specs.declared.coding.Instance.{Instance as CodedInstance}
 use Rattle.equation_law.specs.declared.coding.NodeRef.{NodeRef}
 use Rattle.equation_law.specs.declared.coding.Up.{Up}
-use Rattle.equation_law.specs.declared.coding.Value.{Value as CodedValue}
 use Rattle.equation_law.specs.declared.system.System.{System}
 use Rattle.equation_law.specs.Checked.{HasSourcesAlone}
-use Rattle.equation_law.specs.Codes.{IsNamingOf, NamesInOrder, Naming, source_names}
+use Rattle.equation_law.specs.Codes.{IsNamingOf, Naming}
 use Rattle.equation_law.specs.Equations.{is_declared}
 use Rattle.equation_law.specs.Names.{Instance}
 use Rattle.equation_law.specs.Orders.{FitsKind}
-use Rattle.equation_law.specs.Program.{Program, text_of}
-use Rattle.equation_law.specs.Reading.{ArgumentBy, ChildBy, ClassBy, Grows, IsSound, KnowsInstance, KnowsValue, OrderBy, TokenBy, Told, UpBy, code_above}
+use Rattle.equation_law.specs.Program.{Program}
+use Rattle.equation_law.specs.Reading.{ArgumentBy, ChildBy, ClassBy, Grows, IsSound, OrderBy, TokenBy, Told, UpBy, code_above}
 use Rattle.equation_law.specs.Systems.{program_of}
 use Rattle.equation_law.specs.Values.{Value, as_kind}
-use Rattle.equation_law.proofs.Bare.{argument_bare, child_bare, class_bare, order_bare, token_bare, trees_fit, up_bare}
-use Rattle.equation_law.proofs.Codes.{sources_named}
-use Rattle.equation_law.proofs.Grown.{each_instance, each_value, grows_itself}
+use Rattle.equation_law.proofs.Bare.{argument_bare, child_bare, class_bare, token_bare, trees_fit, up_bare}
+use Rattle.equation_law.proofs.Grown.{grows_itself}
 use Rattle.equation_law.proofs.Solution.{one}
-use Rattle.equation_law.proofs.Sources.{source_naming}
 use Rattle.equation_law.proofs.Tied.{never_makes}
 use Rattle.expr_eval.specs.declared.saved.Saved.{Saved}
 use Rattle.expr_eval.specs.Saved.{AreSaved}
 use Rattle.expr_eval.proofs.Growing.{saved_more}
+use Rattle.made_trees.specs.Made.{naming_by_makers}
 use Rattle.memo_cells.specs.declared.view.Frame.{Frame}
 use Rattle.memo_cells.specs.declared.view.View.{View}
+use Rattle.memo_cells.specs.Agreeing.{Agrees}
 use Rattle.memo_cells.specs.Working.{Held, IsKnown, IsOwn, ReadsOn, TellsPass, program_at}
+use Rattle.memo_cells.proofs.Agreeing.{IsOpen, agrees_before, node_known_later, own_open}
 use Rattle.memo_cells.proofs.Showing.{not_both}
-use Rattle.circular_eval.specs.Local.{AreReadable, IsMemberOf, MayRead, MayReadByEach, Members, ReadsByEach, ReadsHere, here, present, reads_here, settled, solved}
+use Rattle.circular_eval.specs.Local.{AreKnownMembers, AreReadable, IsMemberOf, MayRead, MayReadByEach, Members, ReadsByEach, ReadsHere, here, present, reads_here, settled, solved}
 use Rattle.circular_eval.specs.Looking.{told_here}
+use Rattle.circular_eval.proofs.Knowing.{source_known}
 use Rattle.circular_eval.proofs.Later.{read_later}
+use Rattle.circular_eval.proofs.Tied.{may_other, readable_later}
 
 -- a work is a reader for the program of its cells
 pub work_sound : {W : Type 0} (held : W → Held) (x : W) (r : Told W) → TellsPass held x r → IsOwn (held x) → IsSound (program_at (held x)) r
 work_sound held x r t own =
     let p = program_at (held x) in
-    let plain = source_naming p in
+    let ms = (held x).view.made in
     record {
       for = t.for own;
       within = λ i v h. t.may i v (t.known i v h).1;
       one_value = λ i v w a b. one p i v w (t.can i v a) (t.can i w b);
-      named = λ n is. (t.named n is).0;
-      some = (source_names (text_of p), t.each (source_names (text_of p)) plain.0 plain.1);
-      sources = λ c low. t.knows c;
+      named = λ n is. (t.named n is).named;
+      some = (naming_by_makers p ms, t.each (naming_by_makers p ms) (own_open (held x).frame (held x).view [] own));
+      sources = λ c low. t.knows c (source_known ms c low);
       fit = trees_fit p own.bare;
       trees = λ a o xs v may m is. absurd (let none = never_makes p own.bare a o in cc);
     }
@@ -86,14 +86,14 @@ may_read (settled n k) = solved n k.1
 may_read (here n k) = present n
 
 -- an evaluation under a local set has a sound reader
-pub here_sound : {S : Type 0} (d : Held) (s : System) (es : Members) (keeps : S → Type 0) (p : Program) → p ≡ program_at d → d.frame.system.value ≡ s → IsOwn d → AreReadable p es → IsSound p (told_here d s es keeps)
+pub here_sound : {S : Type 0} (d : Held) (s : System) (es : Members) (keeps : S → Type 0) (p : Program) → p ≡ program_at d → d.frame.system.value ≡ s → IsOwn d → AreReadable p d.view.made es → IsSound p (told_here d s es keeps)
 here_sound d s es keeps p e same own kept = record {
   for = (e, same, own, kept);
-  within = λ i v h names named. may_read (h names named);
-  one_value = λ i v w a b. let q = program_at d in read_once (a (source_names (text_of q)) (sources_named q)) (b (source_names (text_of q)) (sources_named q));
-  named = λ n is. subst (λ (q : Program). IsNamingOf q n) (sym e) is.0;
-  some = let q = program_at d in (source_names (text_of q), source_naming q);
-  sources = λ c low. tt;
+  within = λ i v h names agrees. may_read (h names agrees);
+  one_value = λ i v w a b. let by = own_open d.frame d.view [] own in read_once (a (naming_by_makers (program_at d) d.view.made) by) (b (naming_by_makers (program_at d) d.view.made) by);
+  named = λ n is. subst (λ (q : Program). IsNamingOf q n) (sym e) is.named;
+  some = (naming_by_makers (program_at d) d.view.made, own_open d.frame d.view [] own);
+  sources = source_known d.view.made;
   fit = trees_fit p (subst HasSourcesAlone (sym e) own.bare);
   trees = λ a o xs v may m is. absurd (let none = never_makes p (subst HasSourcesAlone (sym e) own.bare) a o in cc);
 }
@@ -101,27 +101,24 @@ here_sound d s es keeps p e same own kept = record {
 -- and goes on with one, where what is held goes on
 pub here_grows : {S : Type 0} (d e : Held) (s : System) (es : Members) (keeps more : S → Type 0) → ReadsOn d e → ((x : S) → keeps x → more x) → (p : Program) → IsSound p (told_here d s es keeps) → Grows p (told_here d s es keeps) (told_here e s es more)
 here_grows d e s es keeps more on kept p sound =
-    let same : program_at e ≡ program_at d = ap (λ (f : Frame). program_of f.system.value) on.on.cells in
+    let q = program_at d in
+    let made = on.on.kept.made in
+    let same : program_at e ≡ q = ap (λ (f : Frame). program_of f.system.value) on.on.cells in
+    let by : IsOpen q e.view.made = subst (λ (u : Program). IsOpen u e.view.made) same (own_open e.frame e.view [] on.on.own) in
+    let known : AreKnownMembers q d.view.made es = subst (λ (u : Program). AreKnownMembers u d.view.made es) sound.for.0 sound.for.3.1 in
     record {
-      sound = here_sound e s es more p (sound.for.0 ∙ sym same) (ap (λ (f : Frame). f.system.value) on.on.cells ∙ sound.for.1) on.on.own sound.for.3;
-      values = λ i v h. subst (λ (q : Program). ReadsByEach q e.view es i v) (sym same) (λ names named. read_later (program_at d) names d.view e.view on.on.kept es i v (h names named));
-      bound = λ i v h. subst (λ (q : Program). MayReadByEach q es i v) same h;
+      sound = here_sound e s es more p (sound.for.0 ∙ sym same) (ap (λ (f : Frame). f.system.value) on.on.cells ∙ sound.for.1) on.on.own (readable_later p made es sound.for.3);
+      values = λ i v h. subst (λ (q : Program). ReadsByEach q e.view es i v) (sym same) (λ names agrees. read_later q names d.view e.view on.on.kept es i v (h names (agrees_before q made agrees)));
+      bound = λ i v h names agrees. may_other q d.view.made (agrees_before q made by) agrees es known i v (subst (λ (u : Program). MayReadByEach u e.view.made es i v) same h (naming_by_makers q e.view.made) by);
       kept = kept;
-      names = λ n is. subst (λ (q : Program). NamesInOrder q n) same is;
-      known = λ c k. k;
+      names = λ n is. agrees_before q made (subst (λ (u : Program). Agrees u e.view.made n) same is);
+      known = node_known_later q made;
       heights = λ c. le_refl c;
     }
 
 -- where nothing is read, it is the same
 pub here_same : {S : Type 0} (d : Held) (s : System) (es : Members) (keeps : S → Type 0) (p : Program) → IsSound p (told_here d s es keeps) → Grows p (told_here d s es keeps) (told_here d s es keeps)
 here_same d s es keeps p sound = grows_itself sound
-
--- it knows the nodes in whatever it is asked for
-pub here_instance : {S : Type 0} (d : Held) (s : System) (es : Members) (keeps : S → Type 0) (p : Program) (i : CodedInstance) → KnowsInstance p (told_here d s es keeps) i
-here_instance d s es keeps p i = each_instance (told_here d s es keeps) (λ c. tt) p i
-
-pub here_value : {S : Type 0} (d : Held) (s : System) (es : Members) (keeps : S → Type 0) (v : CodedValue) → KnowsValue (told_here d s es keeps) v
-here_value d s es keeps v = each_value (told_here d s es keeps) (λ c. tt) v
 
 -- nodes that were made there are none
 module _ {S : Type 0} (d : Held) (s : System) (es : Members) (keeps : S → Type 0) where
@@ -146,8 +143,16 @@ module _ {S : Type 0} (d : Held) (s : System) (es : Members) (keeps : S → Type
   pub here_argument : (node : NodeRef) (k result : ℕ) → ArgumentBy told told node k result
   here_argument = argument_bare told d.frame.system.value its_bare
 
-  pub here_order : (a b : NodeRef) (result : Ordering) → result ≡ nat_cmp a.0 b.0 → OrderBy told told a b result
-  here_order = order_bare told d.frame.system.value its_bare (λ p sound n is. is.1)
+-- nodes are in the order that a work tells
+pub work_order : {W S : Type 0} (held : W → Held) (x y : W) (r t : Told W) → TellsPass held x r → TellsPass held y t → (s : System) (es : Members) (keeps more : S → Type 0) → ((z : S) → ReadsOn (held x) (held y) → keeps z → more z) → (first second : NodeRef) (result : Ordering) → OrderBy r t first second result → OrderBy (told_here (held x) s es keeps) (told_here (held y) s es more) first second result
+work_order held x y r t a b s es keeps more goes first second result h = record {
+  kept = λ p sound.
+      let on = work_reads held x y r t a b sound.for.2 (h.kept (program_at (held x)) (work_sound held x r a sound.for.2)) in
+      here_grows (held x) (held y) s es keeps more on (λ z. goes z on) p sound;
+  answer = λ p sound one other names agrees.
+      let work : IsSound p r = subst (λ (q : Program). IsSound q r) (sym sound.for.0) (work_sound held x r a sound.for.2) in
+      h.answer p work (a.knows first.0 one) (a.knows second.0 other) names (b.each names agrees);
+}
 
 -- what is saved is so whatever a reader kept
 pub saved_there : {S : Type 0} (d : Held) (s : System) (es : Members) (keeps : S → Type 0) (q : System) (x : Saved) → AreSaved q (reads_here (program_at d) d.view es) x → AreSaved q (told_here d s es keeps) x

@@ -12,17 +12,15 @@ use Rattle.attr_rules.specs.declared.kinds.Kind.{Kind}
 use Rattle.attr_rules.specs.declared.kinds.Kind.TheVariants as kinds
 use Rattle.equation_law.specs.declared.coding.Instance.{Instance as CodedInstance}
 use Rattle.equation_law.specs.Checked.{IsInstance, IsNodeOf, IsProgram, IsValue, nodes, texts, truth}
-use Rattle.equation_law.specs.Codes.{Naming, instance_by, reference_of, source_names, value_by}
+use Rattle.equation_law.specs.Codes.{Naming, instance_by, value_by}
 use Rattle.equation_law.specs.Equations.{HasValue, equations_of, is_ordered, kind_in}
-use Rattle.equation_law.specs.Keys.{IsElementCode}
 use Rattle.equation_law.specs.Loops.{Leads, fits_in, join_in, order_in}
 use Rattle.equation_law.specs.Lower.{IsLower, raised_at}
-use Rattle.equation_law.specs.Names.{Instance, Reference, node_cmp, same_instance, text_cmp}
+use Rattle.equation_law.specs.Names.{At, Instance, Reference, node_cmp, same_instance, text_cmp}
 use Rattle.equation_law.specs.Orders.{FitsKind, IsAtMost}
 use Rattle.equation_law.specs.Program.{Program, text_of}
 use Rattle.equation_law.specs.Sets.{has, no_elements}
 use Rattle.equation_law.specs.Values.{Value, default_of, nodes as nodes_in, texts as texts_in}
-use Rattle.equation_law.proofs.Codes.{sources_named}
 use Rattle.equation_law.proofs.Declared.{as_declared}
 use Rattle.equation_law.proofs.Demanded.{ended_typed as typed_end, met_instances}
 use Rattle.equation_law.proofs.Names.{same_instance_is}
@@ -30,12 +28,13 @@ use Rattle.equation_law.proofs.Orders.{at_most_itself, at_most_through}
 use Rattle.equation_law.proofs.QueryValues.{value_typed}
 use Rattle.equation_law.proofs.Sets.{none_has}
 use Rattle.equation_law.proofs.Solution.{are_joins, are_rising, below, circular_site, still_lower, values_grow}
-use Rattle.equation_law.proofs.Tied.{element_node}
 use Rattle.memo_cells.specs.declared.view.View.{View}
 use Rattle.memo_cells.specs.declared.view.Frame.{Frame}
+use Rattle.memo_cells.specs.Agreeing.{IsElementAt, IsReferenceAt}
 use Rattle.memo_cells.specs.Showing.{ShowsAtLeast, ShowsCode}
 use Rattle.memo_cells.specs.Standing.{AreApproximations, AreShown, ComesTo, IsShown}
 use Rattle.memo_cells.specs.Views.{Has}
+use Rattle.memo_cells.proofs.Agreeing.{IsOpen, one_stands}
 use Rattle.memo_cells.proofs.Raising.{Higher}
 use Rattle.memo_cells.proofs.Showing.{not_both, shown_between}
 use Rattle.circular_eval.specs.declared.members.Member.{Member}
@@ -70,27 +69,29 @@ bottom_shown p v i (kinds.Nodes c) = λ n h. absurd (none_has node_cmp n h)
 
 -- a value that the words show is of the type
 shown_text : (p : Program) (v : View) (near : AreApproximations p v) (i : Instance) → kind_in p i ≡ kinds.Texts → (c : ℕ) → ShowsCode p v i c → Contains p.texts (text_of p c)
-shown_text p v near i e c h = Contains-get_or p.texts c [] (subst (λ (k : Kind). IsElementCode p k c) e (near.codes i c h))
+shown_text p v near i e c h = Contains-get_or p.texts c [] (subst (λ (k : Kind). IsElementAt p v.made k c) e (near.codes i c h))
 
-shown_node : (p : Program) (v : View) (near : AreApproximations p v) (i : Instance) (d : ClassId) → kind_in p i ≡ kinds.Nodes d → (c : ℕ) → ShowsCode p v i c → IsNodeOf p d (reference_of c)
-shown_node p v near i d e c h = element_node p d c (subst (λ (k : Kind). IsElementCode p k c) e (near.codes i c h))
+shown_node : (p : Program) (v : View) (near : AreApproximations p v) → IsOpen p v.made → (i : Instance) (d : ClassId) → kind_in p i ≡ kinds.Nodes d → (c : ℕ) (r : Reference) → IsReferenceAt p v.made c r → ShowsCode p v i c → IsNodeOf p d r
+shown_node p v near by i d e c r at h =
+    let element = subst (λ (k : Kind). IsElementAt p v.made k c) e (near.codes i c h) in
+    subst (IsNodeOf p d) (one_stands p v.made by c element.1.0 r element.1.1 at) element.1.2
 
-pub shown_typed : (p : Program) (v : View) (near : AreApproximations p v) (i : Instance) (k : Kind) → kind_in p i ≡ k → (x : Value) → FitsKind k x → ShowsAtLeast p v i k x → IsValue p k x
-shown_typed p v near i kinds.Truth e x f l = subst (λ (y : Value). IsValue p kinds.Truth y) (sym f.1) (truth f.0)
-shown_typed p v near i kinds.Int e x f l = elim f [ ]
-shown_typed p v near i kinds.Text e x f l = elim f [ ]
-shown_typed p v near i (kinds.Node c) e x f l = elim f [ ]
-shown_typed p v near i kinds.Texts e x f l =
+pub shown_typed : (p : Program) (v : View) (near : AreApproximations p v) → IsOpen p v.made → (i : Instance) (k : Kind) → kind_in p i ≡ k → (x : Value) → FitsKind k x → ShowsAtLeast p v i k x → IsValue p k x
+shown_typed p v near by i kinds.Truth e x f l = subst (λ (y : Value). IsValue p kinds.Truth y) (sym f.1) (truth f.0)
+shown_typed p v near by i kinds.Int e x f l = elim f [ ]
+shown_typed p v near by i kinds.Text e x f l = elim f [ ]
+shown_typed p v near by i (kinds.Node c) e x f l = elim f [ ]
+shown_typed p v near by i kinds.Texts e x f l =
     subst (λ (y : Value). IsValue p kinds.Texts y) (sym f.1)
     (texts f.0 (λ t h. let c = l t (subst (λ (y : Value). has (texts_in y) t ≡ true) (sym f.1) h) in subst (λ (u : List ℕ). Contains p.texts u) c.1 (shown_text p v near i e c.0 c.2)))
-shown_typed p v near i (kinds.Nodes d) e x f l =
+shown_typed p v near by i (kinds.Nodes d) e x f l =
     subst (λ (y : Value). IsValue p (kinds.Nodes d) y) (sym f.1)
-    (nodes d f.0 (λ n h. let c = l n (subst (λ (y : Value). has (nodes_in y) n ≡ true) (sym f.1) h) in subst (λ (r : Reference). IsNodeOf p d r) (c.1 (source_names (text_of p)) (sources_named p)) (shown_node p v near i d e c.0 c.2)))
+    (nodes d f.0 (λ n h. let c = l n (subst (λ (y : Value). has (nodes_in y) n ≡ true) (sym f.1) h) in shown_node p v near by i d e c.0 (At n) c.1 c.2))
 
-module _ (p : Program) (v : View) (near : AreApproximations p v) where
+module _ (p : Program) (v : View) (near : AreApproximations p v) (by : IsOpen p v.made) where
   -- a value that is shown or final is at most that of the lower assignment
   shown_below : (j : Instance) → (equations_of p).circular j ≡ true → (x : Value) → FitsKind (kind_in p j) x → IsShown p v j x → IsAtMost x (near.values j)
-  shown_below j c x fits shown = ⊎_elim (λ least. shown_between p v j (kind_in p j) x (near.values j) fits least (near.circular j c)) (λ k. near.final j c k.0 x k.1) shown
+  shown_below j c x fits shown = ⊎_elim (λ least. shown_between p v by j (kind_in p j) x (near.values j) fits least (near.circular j c)) (λ k. near.final j c k.0 x k.1) shown
 
   -- and what an equation comes to under such values is at most the value in the solution
   pub comes_below : (i : Instance) → (equations_of p).circular i ≡ true → (x : Value) → ComesTo p v i x → (w : Value) → HasValue p i w → IsAtMost x w
@@ -116,7 +117,7 @@ pub record IsGood (p : Program) (v : View) (i : Instance) (x : Value) : Type 0 w
   pub fits : FitsKind (kind_in p i) x
   pub shown : IsShown p v i x
 
-module _ (p : Program) (names : Naming) (good : IsProgram p) (v : View) (near : AreApproximations p v) (f : Frame) (start : CodedInstance) (es : Members) (set : AreMembers p names f v start es) where
+module _ (p : Program) (names : Naming) (good : IsProgram p) (v : View) (near : AreApproximations p v) (by : IsOpen p v.made) (f : Frame) (start : CodedInstance) (es : Members) (set : AreMembers p names f v start es) where
   bottom_good : (i : Instance) → (equations_of p).circular i ≡ true → IsGood p v i (default_of (kind_in p i))
   unfolding equations_of
   bottom_good i c = record { fits = bottom_fits (kind_in p i) (circular_site p i c).ordered; shown = inl (bottom_shown p v i (kind_in p i)) }
@@ -138,11 +139,11 @@ module _ (p : Program) (names : Naming) (good : IsProgram p) (v : View) (near : 
     fits = λ j c. (values_good j c).fits;
     below = λ j c.
         let g = values_good j c in
-        at_most_through (local_value p names es j) (near.values j) (near.lower.top j) (shown_below p v near j c (local_value p names es j) g.fits g.shown) (near.lower.below j c);
+        at_most_through (local_value p names es j) (near.values j) (near.lower.top j) (shown_below p v near by j c (local_value p names es j) g.fits g.shown) (near.lower.below j c);
   }
 
   good_typed : (j : Instance) → IsInstance p j → (x : Value) → IsGood p v j x → IsValue p (kind_in p j) x
-  good_typed j h x g = ⊎_elim (λ least. shown_typed p v near j (kind_in p j) refl x g.fits least) (λ k. value_typed p good j h x k.1) g.shown
+  good_typed j h x g = ⊎_elim (λ least. shown_typed p v near by j (kind_in p j) refl x g.fits least) (λ k. value_typed p good j h x k.1) g.shown
 
   reads_typed : (j : Instance) (w : Value) → IsInstance p j → ReadsHere p names v es j w → IsValue p (kind_in p j) w
   reads_typed j w h (settled d k) = value_typed p good j h w k.1

@@ -6,23 +6,25 @@ use Rattle.equation_law.specs.declared.coding.Instance.{Instance as CodedInstanc
 use Rattle.equation_law.specs.declared.coding.Value.{Value as CodedValue}
 use Rattle.equation_law.specs.declared.system.System.{System}
 use Rattle.equation_law.specs.Checked.{IsInstance}
-use Rattle.equation_law.specs.Codes.{AreElements, ByEachNaming, IsCoded, Naming, instance_by, source_names, value_by}
+use Rattle.equation_law.specs.Codes.{AreElements, IsCoded, Naming, instance_by, value_by}
 use Rattle.equation_law.specs.Equations.{HasValue, equations_of, kind_in}
 use Rattle.equation_law.specs.Loops.{Chain, Leads}
 use Rattle.equation_law.specs.Names.{Instance, same_instance}
 use Rattle.equation_law.specs.Orders.{FitsKind}
-use Rattle.equation_law.specs.Program.{Program, text_of}
+use Rattle.equation_law.specs.Program.{Program}
 use Rattle.equation_law.specs.Systems.{program_of}
 use Rattle.equation_law.specs.Values.{Value}
-use Rattle.equation_law.proofs.Codes.{sources_named}
 use Rattle.expr_eval.specs.declared.saved.Saved.{Saved}
+use Rattle.made_trees.specs.Made.{naming_by_makers}
 use Rattle.memo_cells.specs.declared.keys.Slot.{Slot}
 use Rattle.memo_cells.specs.declared.view.Frame.{Frame}
 use Rattle.memo_cells.specs.declared.view.View.{View}
+use Rattle.memo_cells.specs.Agreeing.{ByEachAgreeing, IsKnownInstance}
 use Rattle.memo_cells.specs.Claiming.{ClaimsKeys}
 use Rattle.memo_cells.specs.Standing.{Knows}
 use Rattle.memo_cells.specs.Views.{Has}
 use Rattle.memo_cells.specs.Working.{Held, program_at}
+use Rattle.memo_cells.proofs.Agreeing.{IsOpen, agrees_before, own_open}
 use Rattle.memo_cells.proofs.Claiming.{claims_same, claims_then, fills_more}
 use Rattle.memo_cells.proofs.Holding.{goes_itself}
 use Rattle.memo_cells.proofs.More.{at_least_itself}
@@ -42,6 +44,7 @@ use Rattle.circular_eval.proofs.Entries.{at_has, changed_at, length_changed}
 use Rattle.circular_eval.proofs.Ending.{head_of}
 use Rattle.circular_eval.proofs.Going.{member_chain, program_on, with_then}
 use Rattle.circular_eval.proofs.Growing.{local_risen}
+use Rattle.circular_eval.proofs.Knowing.{copy_known}
 use Rattle.circular_eval.proofs.Later.{set_later}
 use Rattle.circular_eval.proofs.Passing.{goes_looked, missing_same}
 use Rattle.circular_eval.proofs.Resuming.{kept_on}
@@ -131,7 +134,7 @@ module _ (p : Program) (names : Naming) (f : Frame) (v : View) (l : Local) (h : 
         coded = m.coded;
         is_circular = m.is_circular;
         elements = m.elements;
-        tied = m.tied;
+        known = m.known;
         fits = m.fits;
         shown = m.shown;
         placed = placed_shut k d e c.1 c.2 m.placed;
@@ -149,10 +152,11 @@ module _ (p : Program) (names : Naming) (f : Frame) (v : View) (l : Local) (h : 
   local_shut m s q k e = record {
     instance = subst (λ (u : CodedInstance). IsInstance p (instance_by p names u)) (sym s) h.instance;
     coded = subst (λ (u : CodedInstance). IsCoded p u) (sym s) h.coded;
+    known = subst (λ (u : CodedInstance). IsKnownInstance p v.made u) (sym s) h.known;
     is_circular = subst (λ (u : CodedInstance). (equations_of p).circular (instance_by p names u) ≡ true) (sym s) h.is_circular;
     set = subst (λ (u : CodedInstance × Members). AreMembers p names f v u.0 u.1) (λ j. (sym s j, sym e j)) (record { first = first_shut; members = members_shut; different = λ a b i y z. h.set.different a b i (number_shut a i y) (number_shut b i z) });
     need = subst (λ (u : Members × Option (ℕ × CodedInstance)). IsNeedOf p names u.0 u.1) (λ j. (sym e j, sym q j)) (need_shut p names es n l.need h.need);
-    saved = subst (λ (u : Members × Option Saved). IsKept f.system.value (reads_here p v u.0) u.1) (λ j. (sym e j, sym k j)) (kept_on p v v (at_least_itself v) es shut (λ others other. still_shut p others es n) f.system.value l.saved h.saved);
+    saved = subst (λ (u : Members × Option Saved). IsKept f.system.value (reads_here p v u.0) u.1) (λ j. (sym e j, sym k j)) (kept_on p v v (at_least_itself v) es shut (λ others agrees. still_shut p others es n) f.system.value l.saved h.saved);
   }
 
 some_shut : (es fs : Members) (n : ℕ) → fs ≡ without_slot es n → 0 < length es → 0 < length fs
@@ -192,7 +196,7 @@ risen_final l m n d x at there s q k e = record {
   start = s;
   members = same_risen l.members.entries m.members.entries n x e;
   some = some_risen l.members.entries m.members.entries n x e;
-  kept = λ p names f v h final. let a = final d at in local_risen p names f v l h n x d at there a.elements a.tied a.fits (inr (a.known, a.has)) m s q k e;
+  kept = λ p names f v h final. let a = final d at in local_risen p names f v l h n x d at there a.elements a.value_known a.fits (inr (a.known, a.has)) m s q k e;
 }
 
 -- and has it then
@@ -227,7 +231,7 @@ same_final p names v _ n x y same elements final e at =
     let q : value_by names x ≡ value_by names y = sym (same names) in
     record {
       elements = elements p a.elements;
-      tied = λ others other. same others ∙ a.tied others other ∙ q;
+      value_known = copy_known p v.made x y same (elements p a.elements) a.value_known;
       fits = subst (λ (u : Value). FitsKind (kind_in p (instance_by p names e.0)) u) q a.fits;
       known = a.known;
       has = subst (λ (u : Value). HasValue p (instance_by p names e.0) u) q a.has;
@@ -247,7 +251,7 @@ member_final p names f v l h k i x at =
     let there = at_has l.members.entries k at.entry at.at in
     let m = h.local.set.members k at.entry at.at in
     subst (λ (u : CodedInstance × CodedValue). IsFinal p names v (instance_by p names u.0) u.1) (λ j. (at.is j, at.value j))
-    (record { elements = m.elements; tied = m.tied; fits = m.fits; known = h.sealed.members at.entry there; has = h.sealed.values at.entry there })
+    (record { elements = m.elements; value_known = m.known.1; fits = m.fits; known = h.sealed.members at.entry there; has = h.sealed.values at.entry there })
 
 -- and so it is where the instance is a member of another set
 pub final_at : (p : Program) (names : Naming) (f : Frame) (v : View) (part : Local) → IsSealedSet p names f v part → (es : Members) (k number : ℕ) (i : CodedInstance) (x y : CodedValue) → IsMemberAt part.members.entries k i x → IsMemberAt es number i y → IsFinalAt p names v es number x
@@ -257,8 +261,8 @@ final_at p names f v part sealed es k number i x y there here e at =
     subst (λ (u : CodedInstance). IsFinal p names v (instance_by p names u) x) (sym (ap (λ (q : CodedInstance × Member). q.0) is ∙ here.is)) (member_final p names f v part sealed k i x there)
 
 -- a fault for what is led to
-fault_led : (p : Program) (i j : CodedInstance) (f : Frame) (v : View) → ByEachNaming p (λ names. Chain p (instance_by p names i) (instance_by p names j)) → (fault : CircFault) → AnswersFault p j f v fault → AnswersFault p i f v fault
-fault_led p i j f v c CellsFull h = λ names named. fills_more p (instance_by p names i) (instance_by p names j) f v (c names named) (h names named)
+fault_led : (p : Program) (i j : CodedInstance) (f : Frame) (v : View) → ByEachAgreeing p v.made (λ names. Chain p (instance_by p names i) (instance_by p names j)) → (fault : CircFault) → AnswersFault p j f v fault → AnswersFault p i f v fault
+fault_led p i j f v c CellsFull h = λ names agrees. fills_more p (instance_by p names i) (instance_by p names j) f v (c names agrees) (h names agrees)
 fault_led p i j f v c Memory h = tt
 
 -- where only memory may be wanting
@@ -293,16 +297,17 @@ module _ (s : System) (d : Held) (l : Local) (r : IsReady s d l) (n : ℕ) (i : 
         program = r.program;
         same = r.same;
         own = r.own;
-        local = λ names named.
-            let m = (r.local names named).set.members n entry.0 entry.1 in
+        local = λ names agrees.
+            let m = (r.local names agrees).set.members n entry.0 entry.1 in
             begun q names d.frame d.view
             (subst (λ (u : CodedInstance). IsInstance q (instance_by q names u)) entry.2 m.instance)
             (subst (λ (u : CodedInstance). IsCoded q u) entry.2 m.coded)
+            (subst (λ (u : CodedInstance). IsKnownInstance q d.view.made u) entry.2 m.known.0)
             (subst (λ (u : CodedInstance). (equations_of q).circular (instance_by q names u) ≡ true) entry.2 m.is_circular);
       }
 
-  reached : ByEachNaming p (λ names. Chain p (instance_by p names l.start) (instance_by p names i))
-  reached names named = subst (λ (u : CodedInstance). Chain p (instance_by p names l.start) (instance_by p names u)) entry.2 (member_chain p names d.frame d.view l (local_is_here s d l r names named) n entry.0 entry.1)
+  reached : ByEachAgreeing p d.view.made (λ names. Chain p (instance_by p names l.start) (instance_by p names i))
+  reached names agrees = subst (λ (u : CodedInstance). Chain p (instance_by p names l.start) (instance_by p names u)) entry.2 (member_chain p names d.frame d.view l (local_is_here s d l r names agrees) n entry.0 entry.1)
 
   module _ (e : Held) (begun part : Local) (is : begun.start ≡ i) where
     -- what a part did, the set did
@@ -311,9 +316,9 @@ module _ (s : System) (d : Held) (l : Local) (r : IsReady s d l) (n : ℕ) (i : 
       on = goes.on;
       local = local;
       start = start;
-      claims = λ names named.
-          claims_then p (instance_by p names l.start) (instance_by p names i) d.view d.view e.view (reached names named) (claims_same p (instance_by p names l.start) d.view d.view refl) goes.on.kept
-          (subst (λ (u : CodedInstance). ClaimsKeys p (instance_by p names u) d.view e.view) is (goes.claims names named));
+      claims = λ names agrees.
+          claims_then p (instance_by p names l.start) (instance_by p names i) d.view d.view e.view (reached names (agrees_before p goes.on.kept.made agrees)) (claims_same p (instance_by p names l.start) d.view d.view refl) goes.on.kept
+          (subst (λ (u : CodedInstance). ClaimsKeys p (instance_by p names u) d.view e.view) is (goes.claims names agrees));
       some = some;
     }
 
@@ -333,8 +338,8 @@ module _ (s : System) (d : Held) (l : Local) (r : IsReady s d l) (n : ℕ) (i : 
         before = a.goes.on;
         after = goes_itself e a.goes.on.own;
         need = x;
-        missing = λ names named.
-            let m = a.answer names named in
+        missing = λ names agrees.
+            let m = a.answer names agrees in
             record {
               reached = subst (λ (u : CodedInstance). Chain p (instance_by p names u) (instance_by p names x)) (a.goes.start ∙ is) m.reached;
               undeclared = m.undeclared;
@@ -346,32 +351,37 @@ module _ (s : System) (d : Held) (l : Local) (r : IsReady s d l) (n : ℕ) (i : 
     pub part_fails : (fault : CircFault) → Advances d e begun part (Err fault) → (y : Result Bool CircFault) → y ≡ Err fault → SealsPart d e l l y
     part_fails fault a y same =
         subst (λ (z : Result Bool CircFault). SealsPart d e l l z) (sym same)
-        (record { goes = part_goes l a.goes refl (λ h. h) (later a.goes); members = same_itself l.members.entries; fault = fault_led p l.start i d.frame e.view reached fault (subst (λ (u : CodedInstance). AnswersFault p u d.frame e.view fault) (a.goes.start ∙ is) a.answer) })
+        (record { goes = part_goes l a.goes refl (λ h. h) (later a.goes); members = same_itself l.members.entries; fault = fault_led p l.start i d.frame e.view (λ names agrees. reached names (agrees_before p a.goes.on.kept.made agrees)) fault (subst (λ (u : CodedInstance). AnswersFault p u d.frame e.view fault) (a.goes.start ∙ is) a.answer) })
 
     -- it was sealed
-    pub part_sealed : Advances d e begun part (Ok turn.Closed) → ByEachNaming p (λ names. IsSealedSet p names d.frame e.view part)
-    part_sealed a names named = record { local = a.goes.local names named; sealed = a.answer names named }
+    pub part_sealed : Advances d e begun part (Ok turn.Closed) → ByEachAgreeing p e.view.made (λ names. IsSealedSet p names d.frame e.view part)
+    part_sealed a names agrees = record { local = a.goes.local names agrees; sealed = a.answer names agrees }
+
+    -- some naming agrees then
+    open_then : GoesOnWith d e begun part → IsOpen p e.view.made
+    open_then goes = subst (λ (u : Program). IsOpen u e.view.made) (program_on d e goes.on) (own_open e.frame e.view [] goes.on.own)
 
     -- the member is the first one of the part
     first : Advances d e begun part (Ok turn.Closed) → (c : CodedInstance × Member) × (slice_get part.members.entries 0 ≡ Some c) × (c.0 ≡ i)
     first a =
         let c = head_of part.members.entries a.begun in
-        (c.0, c.1, (a.goes.local (source_names (text_of p)) (sources_named p)).set.first c.0 c.1 ∙ a.goes.start ∙ is)
+        (c.0, c.1, (a.goes.local (naming_by_makers p e.view.made) (open_then a.goes)).set.first c.0 c.1 ∙ a.goes.start ∙ is)
 
     pub part_done : (m : Local) → Advances d e begun part (Ok turn.Closed) → SameMembers l.members.entries m.members.entries → ((k : ℕ) → SealsMember part l m k) → IsSealedAt m.members.entries n
     part_done m a same seals =
         let c = first a in
-        let plain = source_names (text_of p) in
+        let some = naming_by_makers p e.view.made in
+        let by = open_then a.goes in
         entry_sealed m.members.entries n
         (λ x at.
         let before = same.same n x at in
         let both : Some before.0 ≡ Some entry.0 = sym before.1 ∙ entry.1 in
         let one : before.0 ≡ entry.0 = cc in
-        seals 0 p plain d.frame e.view (later a.goes plain (sources_named p)) (part_sealed a plain (sources_named p)) c.0 c.1 n x at (before.2 ∙ ap (λ (q : CodedInstance × Member). q.0) one ∙ entry.2 ∙ sym c.2))
+        seals 0 p some d.frame e.view (later a.goes some by) (part_sealed a some by) c.0 c.1 n x at (before.2 ∙ ap (λ (q : CodedInstance × Member). q.0) one ∙ entry.2 ∙ sym c.2))
 
     pub part_taken : (m : Local) → Advances d e begun part (Ok turn.Closed) → m.start ≡ l.start → SameMembers l.members.entries m.members.entries → (0 < length l.members.entries → 0 < length m.members.entries) → ((q : Program) (names : Naming) (f : Frame) (v : View) → IsLocal q names f v l → IsSealedSet q names f v part → IsLocal q names f v m) → (y : Result Bool CircFault) → ((fault : CircFault) → y ≡ Err fault → fault ≡ Memory) → SealsPart d e l m y
     part_taken m a start same some kept y memory = record {
-      goes = part_goes m a.goes start some (λ names named. kept p names d.frame e.view (later a.goes names named) (part_sealed a names named));
+      goes = part_goes m a.goes start some (λ names agrees. kept p names d.frame e.view (later a.goes names agrees) (part_sealed a names agrees));
       members = same;
       fault = only_memory p l.start d.frame e.view y memory;
     }
@@ -423,11 +433,11 @@ err_memory y is fault e = let both : Err Memory ≡ Err fault = sym is ∙ e in 
 
 -- which member is next changes nothing of what is answered
 turn_same : (p : Program) (f : Frame) (v : View) (m n : Local) (y : Result CircTurn CircFault) → n.start ≡ m.start → n.members ≡ m.members → n.need ≡ m.need → AnswersTurn p f v m y → AnswersTurn p f v n y
-turn_same p f v m n (Ok (turn.Need x)) start members need a = λ names named. missing_same p names v m n x start need (a names named)
-turn_same p f v m n (Ok turn.Closed) start members need a = λ names named. record {
-  start = subst (λ (u : CodedInstance). Knows p v (instance_by p names u)) (sym start) (a names named).start;
-  members = λ e there. (a names named).members e (subst (λ (es : Members). Has es e) (ap (λ x. x.entries) members) there);
-  values = λ e there. (a names named).values e (subst (λ (es : Members). Has es e) (ap (λ x. x.entries) members) there);
+turn_same p f v m n (Ok (turn.Need x)) start members need a = λ names agrees. missing_same p names v m n x start need (a names agrees)
+turn_same p f v m n (Ok turn.Closed) start members need a = λ names agrees. record {
+  start = subst (λ (u : CodedInstance). Knows p v (instance_by p names u)) (sym start) (a names agrees).start;
+  members = λ e there. (a names agrees).members e (subst (λ (es : Members). Has es e) (ap (λ x. x.entries) members) there);
+  values = λ e there. (a names agrees).values e (subst (λ (es : Members). Has es e) (ap (λ x. x.entries) members) there);
 }
 turn_same p f v m n (Err fault) start members need a = subst (λ (u : CodedInstance). AnswersFault p u f v fault) (sym start) a
 

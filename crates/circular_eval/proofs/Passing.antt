@@ -1,23 +1,25 @@
 -- Visits of members, one after the other.
-use Rattle.std.proofs.Common.{◌≡◌, ◌⊎◌, ℕ, ◌<◌, ◌+◌, ◌-◌, ◌≤◌, Bool, true, false, Option, Some, None, IsSome, IfSome, is_some, Result, Ok, Err, length, slice_get, inl, inr, ⊎_elim, refl, sym, ap, subst, ◌∙◌, arith}
+use Rattle.std.proofs.Common.{◌≡◌, ◌⊎◌, ℕ, ◌<◌, ◌+◌, ◌-◌, ◌≤◌, Bool, true, false, [], Option, Some, None, IsSome, IfSome, is_some, Result, Ok, Err, length, slice_get, inl, inr, ⊎_elim, refl, sym, ap, subst, ◌∙◌, arith}
 use Rattle.std.proofs.lemmas.Bool.{cases_order}
 use Rattle.std.proofs.lemmas.Option.{slice_get_within}
 use Rattle.equation_law.specs.declared.coding.Instance.{Instance as CodedInstance}
 use Rattle.equation_law.specs.declared.system.System.{System}
-use Rattle.equation_law.specs.Codes.{ByEachOrder, IsCoded, Naming, instance_by, instance_of, source_names}
+use Rattle.equation_law.specs.Codes.{IsCoded, Naming, instance_by, instance_of, source_names}
 use Rattle.equation_law.specs.Equations.{collection_of}
 use Rattle.equation_law.specs.Loops.{Chain}
 use Rattle.equation_law.specs.Program.{Program, text_of}
 use Rattle.equation_law.specs.Systems.{program_of}
-use Rattle.equation_law.proofs.Codes.{sources_named}
 use Rattle.equation_law.proofs.Solution.{circular_single}
 use Rattle.expr_eval.specs.declared.saved.Saved.{Saved}
 use Rattle.expr_eval.specs.declared.sites.Turn.{Turn}
 use Rattle.expr_eval.specs.Saved.{AreSaved, SavesNothing}
 use Rattle.expr_eval.proofs.Found.{none_saved}
+use Rattle.made_trees.specs.Made.{naming_by_makers}
 use Rattle.memo_cells.specs.declared.view.Frame.{Frame}
 use Rattle.memo_cells.specs.declared.view.View.{View}
-use Rattle.memo_cells.specs.Working.{ClaimsKeysFor, Held, ReadsOn, program_at}
+use Rattle.memo_cells.specs.Agreeing.{IsKnownInstance}
+use Rattle.memo_cells.specs.Working.{ByEachAt, ClaimsKeysFor, Held, IsKnownAt, ReadsOn, program_at}
+use Rattle.memo_cells.proofs.Agreeing.{IsOpen, own_open}
 use Rattle.memo_cells.proofs.Claiming.{claims_same}
 use Rattle.memo_cells.proofs.Showing.{not_both}
 use Rattle.circular_eval.specs.declared.advancing.CircFault.{CircFault}
@@ -38,27 +40,38 @@ use Rattle.circular_eval.proofs.Going.{program_on, ready_then, with_itself, with
 use Rattle.circular_eval.proofs.Growing.{local_free, local_kept}
 use Rattle.circular_eval.proofs.Later.{confirmed_later}
 use Rattle.circular_eval.proofs.Resuming.{saved_on, still_same}
+use Rattle.circular_eval.proofs.Tied.{no_collection}
 
 -- one that was sealed when it was met is visited in vain
 pub same_step : (s : System) (d : Held) (l : Local) (number : ℕ) → IsReady s d l → ((e : CodedInstance × Member) → slice_get l.members.entries number ≡ Some e → IsSome e.1.slot → ⊥) → Steps d d l l number (Ok (Some Same))
 same_step s d l number r final = record { goes = with_itself s d l r; answer = record { members = refl; due = refl; confirmed = λ e at some. absurd (final e at some) } }
 
-pub kept_members : (s : System) (d : Held) (l : Local) → IsReady s d l → AreReadable (program_of s) l.members.entries
-kept_members s d l r names named = (
-  λ e there. let at = has_at l.members.entries e there in let m = (r.local names named).set.members at.0 e at.1 in (m.coded, m.elements, m.fits),
-  λ e there. let at = has_at l.members.entries e there in let m = (r.local names named).set.members at.0 e at.1 in (m.instance, m.tied),
+-- some naming agrees with what is known
+ready_open : (s : System) (d : Held) (l : Local) → IsReady s d l → IsOpen (program_of s) d.view.made
+ready_open s d l r = subst (λ (q : System). IsOpen (program_of q) d.view.made) r.same (own_open d.frame d.view [] r.own)
+
+pub kept_members : (s : System) (d : Held) (l : Local) → IsReady s d l → AreReadable (program_of s) d.view.made l.members.entries
+kept_members s d l r = (
+  λ names agrees e there. let at = has_at l.members.entries e there in let m = (r.local names agrees).set.members at.0 e at.1 in (m.coded, m.elements, m.fits),
+  λ e there. let at = has_at l.members.entries e there in ((r.local (naming_by_makers (program_of s) d.view.made) (ready_open s d l r)).set.members at.0 e at.1).known,
 )
 
 pub coded_member : (s : System) (d : Held) (l : Local) → IsReady s d l → (number : ℕ) (e : CodedInstance × Member) → slice_get l.members.entries number ≡ Some e → IsCoded (program_of s) e.0
-coded_member s d l r number e at = ((r.local (source_names (text_of (program_of s))) (sources_named (program_of s))).set.members number e at).coded
+coded_member s d l r number e at = ((r.local (naming_by_makers (program_of s) d.view.made) (ready_open s d l r)).set.members number e at).coded
+
+pub known_member : (s : System) (d : Held) (l : Local) → IsReady s d l → (number : ℕ) (e : CodedInstance × Member) → slice_get l.members.entries number ≡ Some e → IsKnownAt d e.0
+known_member s d l r number e at = subst (λ (q : System). IsKnownInstance (program_of q) d.view.made e.0) (sym r.same) ((r.local (naming_by_makers (program_of s) d.view.made) (ready_open s d l r)).set.members number e at).known.0
 
 -- no member is a collection
 pub single_member : (s : System) (d : Held) (l : Local) → IsReady s d l → (number : ℕ) (e : CodedInstance × Member) → slice_get l.members.entries number ≡ Some e → collection_of (program_of s) (instance_of (program_of s) e.0) ≡ None
-single_member s d l r number e at = circular_single (program_of s) (instance_of (program_of s) e.0) ((r.local (source_names (text_of (program_of s))) (sources_named (program_of s))).set.members number e at).is_circular
+single_member s d l r number e at =
+    let p = program_of s in
+    let some = naming_by_makers p d.view.made in
+    no_collection p some (source_names (text_of p)) e.0 (circular_single p (instance_by p some e.0) ((r.local some (ready_open s d l r)).set.members number e at).is_circular)
 
 -- what was read
 pub goes_read : (s : System) (d e : Held) (l m : Local) → IsReady s d l → ReadsOn d e → IsSame l m → GoesOnWith d e l m
-goes_read s d e l m r on same = goes_same s d l r e on.on (λ names named. claims_same (program_at d) (instance_by (program_at d) names l.start) d.view e.view on.claims) m same
+goes_read s d e l m r on same = goes_same s d l r e on.on (λ names agrees. claims_same (program_at d) (instance_by (program_at d) names l.start) d.view e.view on.claims) m same
 
 pub read_refused : (s : System) (d e : Held) (l m : Local) (number : ℕ) → IsReady s d l → ReadsOn d e → IsSame l m → (y : Result (Option Visited) CircFault) → y ≡ Err Memory → Steps d e l m number y
 read_refused s d e l m number r on same y is = subst (λ (z : Result (Option Visited) CircFault). Steps d e l m number z) (sym is) (record { goes = goes_read s d e l m r on same; answer = tt })
@@ -69,12 +82,12 @@ came_read s d e l m number x turn r on same at some came =
       entry = x;
       at = ap (λ (es : Members). slice_get es number) same ∙ at;
       placed = some;
-      comes = subst (λ (es : Members). ByEachOrder (program_at e) (λ names. ComesTo (program_at e) names e.view es (instance_by (program_at e) names x.0) turn)) (sym same) came;
+      comes = subst (λ (es : Members). ByEachAt e (λ names. ComesTo (program_at e) names e.view es (instance_by (program_at e) names x.0) turn)) (sym same) came;
     }
 
 -- a step after what only read
 step_answer : (p : Program) (f : Frame) (v : View) (l m n : Local) (number : ℕ) (y : Result (Option Visited) CircFault) → m.start ≡ l.start → m.members.entries ≡ l.members.entries → m.worklist.due ≡ l.worklist.due → AnswersStep p f v m n number y → AnswersStep p f v l n number y
-step_answer p f v l m n number (Ok None) start same due h = subst (λ (u : Members). (left n.members.entries < left u) × StillByEach p u n.members.entries) same h
+step_answer p f v l m n number (Ok None) start same due h = subst (λ (u : Members). (left n.members.entries < left u) × StillByEach p v.made u n.members.entries) same h
 step_answer p f v l m n number (Ok (Some (Need x))) start same due h = (h.0, h.1 ∙ same)
 step_answer p f v l m n number (Ok (Some Changed)) start same due h = subst (λ (u : Members). left n.members.entries < left u) same h
 step_answer p f v l m n number (Ok (Some Same)) start same due h = record { members = h.members ∙ same; due = h.due ∙ due; confirmed = h.confirmed }
@@ -93,9 +106,9 @@ step_saved s e f m n number x r (Ok (Some Changed)) h saved = tt
 step_saved s e f m n number x r (Ok (Some Same)) h saved = tt
 step_saved s e f m n number x r (Ok (Some (Need q))) h saved =
     let es = m.members.entries in
-    subst (λ (u : Members). AreSaved s (reads_here (program_of s) f.view u) x) (sym h.answer.1) (saved_on (program_of s) e.view f.view h.goes.on.kept es es (still_same (program_of s) es) s x saved)
+    subst (λ (u : Members). AreSaved s (reads_here (program_of s) f.view u) x) (sym h.answer.1) (saved_on (program_of s) e.view f.view h.goes.on.kept es es (still_same (program_of s) f.view.made es) s x saved)
 step_saved s e f m n number x r (Ok None) h saved =
-    saved_on (program_of s) e.view f.view h.goes.on.kept m.members.entries n.members.entries (subst (λ (q : Program). StillByEach q m.members.entries n.members.entries) (ap program_of r.same) h.answer.1) s x saved
+    saved_on (program_of s) e.view f.view h.goes.on.kept m.members.entries n.members.entries (subst (λ (q : Program). StillByEach q f.view.made m.members.entries n.members.entries) (ap program_of r.same) h.answer.1) s x saved
 
 -- which member is next, and what is kept, changes nothing of the members
 goes_kept : (d e : Held) (l m o : Local) → o.start ≡ m.start → o.members ≡ m.members → o.need ≡ m.need → IsKept d.frame.system.value (reads_here (program_at d) e.view o.members.entries) o.saved → GoesOnWith d e l m → GoesOnWith d e l o
@@ -103,7 +116,7 @@ goes_kept d e l m o start members need saved h =
     let entries : o.members.entries ≡ m.members.entries = ap (λ x. x.entries) members in
     record {
       on = h.on;
-      local = λ names named. local_kept (program_at d) names d.frame e.view m o start entries need saved (h.local names named);
+      local = λ names agrees. local_kept (program_at d) names d.frame e.view m o start entries need saved (h.local names agrees);
       start = start ∙ h.start;
       claims = h.claims;
       some = λ some. subst (λ (u : Members). 0 < length u) (sym entries) (h.some some);
@@ -112,7 +125,7 @@ goes_kept d e l m o start members need saved h =
 pub goes_looked : (d e : Held) (l m o : Local) → o.start ≡ m.start → o.members ≡ m.members → o.need ≡ m.need → o.saved ≡ m.saved → GoesOnWith d e l m → GoesOnWith d e l o
 goes_looked d e l m o start members need saved h =
     goes_kept d e l m o start members need
-    (subst (λ (x : Members × Option Saved). IsKept d.frame.system.value (reads_here (program_at d) e.view x.0) x.1) (λ i. (ap (λ x. x.entries) (sym members) i, sym saved i)) (h.local (source_names (text_of (program_at d))) (sources_named (program_at d))).saved)
+    (subst (λ (x : Members × Option Saved). IsKept d.frame.system.value (reads_here (program_at d) e.view x.0) x.1) (λ i. (ap (λ x. x.entries) (sym members) i, sym saved i)) (h.local (naming_by_makers (program_at d) e.view.made) (subst (λ (u : Program). IsOpen u e.view.made) (program_on d e h.on) (own_open e.frame e.view [] h.on.own))).saved)
     h
 
 -- what is missing doesn't hang on which member is next, nor on what is kept
@@ -120,6 +133,7 @@ pub missing_same : (p : Program) (names : Naming) (v : View) (m o : Local) (q : 
 missing_same p names v m o q start need missing = record {
   instance = missing.instance;
   coded = missing.coded;
+  known = missing.known;
   undeclared = missing.undeclared;
   unknown = missing.unknown;
   reached = subst (λ (i : CodedInstance). Chain p (instance_by p names i) (instance_by p names q)) (sym start) missing.reached;
@@ -145,7 +159,7 @@ visit_begins s d l r = record { goes = with_itself s d l r; change = (refl, refl
 
 -- the set from which what was kept is taken
 pub ready_taken : (s : System) (d : Held) (l m : Local) → IsReady s d l → m.start ≡ l.start → m.members ≡ l.members → m.need ≡ l.need → m.saved ≡ None → IsReady s d m
-ready_taken s d l m r start members need none = record { program = r.program; same = r.same; own = r.own; local = λ names named. local_free (program_of s) names d.frame d.view l m start (ap (λ x. x.entries) members) need none (r.local names named) }
+ready_taken s d l m r start members need none = record { program = r.program; same = r.same; own = r.own; local = λ names agrees. local_free (program_of s) names d.frame d.view l m start (ap (λ x. x.entries) members) need none (r.local names agrees) }
 
 visit_answer : (p : Program) (f : Frame) (v : View) (l m n : Local) (number : ℕ) (y : Result Visited CircFault) → m.start ≡ l.start → m.members.entries ≡ l.members.entries → m.worklist.due ≡ l.worklist.due → AnswersVisit p f v m n number y → AnswersVisit p f v l n number y
 visit_answer p f v l m n number (Ok (Need x)) start same due h = h
@@ -171,7 +185,7 @@ visit_from d f l m n number y start members due h =
 pub taken_saved : (s : System) (d : Held) (l m : Local) → IsReady s d l → m.members ≡ l.members → (x : Saved) → SavesNothing x ⊎ (l.saved ≡ Some x) → AreSaved s (reads_here (program_of s) d.view m.members.entries) x
 taken_saved s d l m r members x (inl none) = none_saved x none
 taken_saved s d l m r members x (inr is) =
-    let here : IsKept s (reads_here (program_of s) d.view l.members.entries) l.saved = subst (λ (q : System). IsKept q (reads_here (program_of s) d.view l.members.entries) l.saved) r.same (r.local (source_names (text_of (program_of s))) (sources_named (program_of s))).saved in
+    let here : IsKept s (reads_here (program_of s) d.view l.members.entries) l.saved = subst (λ (q : System). IsKept q (reads_here (program_of s) d.view l.members.entries) l.saved) r.same (r.local (naming_by_makers (program_of s) d.view.made) (ready_open s d l r)).saved in
     subst (λ (u : Members × Option Saved). IsKept s (reads_here (program_of s) d.view u.0) u.1) (λ i. (ap (λ x. x.entries) (sym members) i, is i)) here
 
 pub visit_ready : (s : System) (d e : Held) (l m : Local) (b : Bool) → IsReady s d l → IsVisited d e l m b → IsReady s e m
@@ -200,7 +214,7 @@ module _ (d e f : Held) (l m n : Local) (number : ℕ) (b : Bool) (h : IsVisited
         goes = goes_kept d f l n o start members need
             (subst (λ (u : Members × Option Saved). IsKept d.frame.system.value (reads_here (program_at d) f.view u.0) u.1) (λ i. (ap (λ x. x.entries) (sym members) i, sym kept i)) here)
             (with_then d e f l m n h.goes v.goes);
-        answer = λ names named. missing_same (program_at d) names f.view n o q start need (missing names named);
+        answer = λ names agrees. missing_same (program_at d) names f.view n o q start need (missing names agrees);
       }
 
   pub visit_changed : Steps e f m n number (Ok (Some Changed)) → Visits d f l n number (Ok Changed)

@@ -1,5 +1,5 @@
 -- Evaluations that go on while members are added.
-use Rattle.std.proofs.Common.{◌≡◌, true, false, cond, [], ◌∷◌, ◌++◌, Option, Some, None, inl, inr, refl, sym, ap, subst, ◌∙◌}
+use Rattle.std.proofs.Common.{◌≡◌, true, false, cond, List, [], ◌∷◌, ◌++◌, Option, Some, None, inl, inr, refl, sym, ap, subst, ◌∙◌}
 use Rattle.equation_law.specs.declared.coding.Instance.{Instance as CodedInstance}
 use Rattle.equation_law.specs.declared.system.System.{System}
 use Rattle.equation_law.specs.Codes.{Naming, instance_by, value_by}
@@ -12,6 +12,7 @@ use Rattle.expr_eval.specs.Saved.{AreSaved}
 use Rattle.expr_eval.proofs.Growing.{saved_more}
 use Rattle.memo_cells.specs.declared.view.View.{View}
 use Rattle.memo_cells.specs.Views.{Has, IsAtLeast}
+use Rattle.memo_cells.proofs.Agreeing.{agrees_before, node_known_later}
 use Rattle.memo_cells.proofs.Bits.{has_left}
 use Rattle.memo_cells.proofs.Naming.{knows_later}
 use Rattle.memo_cells.proofs.Showing.{not_both}
@@ -39,25 +40,25 @@ still_more p names es x = record { members = λ j m. (m.0, has_left es (x ∷ []
 pub still_itself : (p : Program) (names : Naming) (es : Members) → StillMembers p names es es
 still_itself p names es = record { members = λ j m. m; values = λ j m. refl }
 
--- by each naming
-pub still_same : (p : Program) (es : Members) → StillByEach p es es
-still_same p es names named = still_itself p names es
+-- by each naming that agrees
+pub still_same : (p : Program) (ms : List CodedInstance) (es : Members) → StillByEach p ms es es
+still_same p ms es names agrees = still_itself p names es
 
-pub still_with : (p : Program) (es : Members) (x : CodedInstance × Member) → StillByEach p es (es ++ x ∷ [])
-still_with p es x names named = still_more p names es x
+pub still_with : (p : Program) (ms : List CodedInstance) (es : Members) (x : CodedInstance × Member) → StillByEach p ms es (es ++ x ∷ [])
+still_with p ms es x names agrees = still_more p names es x
 
-module _ (p : Program) (v w : View) (more : IsAtLeast v w) (es fs : Members) (still : StillByEach p es fs) where
-  -- what is read stays, by each naming
+module _ (p : Program) (v w : View) (more : IsAtLeast v w) (es fs : Members) (still : StillByEach p w.made es fs) where
+  -- what is read stays, by each naming that agrees
   read_by : (names : Naming) → StillMembers p names es fs → (j : Instance) (x : Value) → ReadsHere p names v es j x → ReadsHere p names w fs j x
   read_by names same j x (settled d k) = settled d (knows_later v w more p j k.0, k.1)
   read_by names same j x (here d m) = subst (λ (y : Value). ReadsHere p names w fs j y) (same.values j m) (here d (same.members j m))
 
   read_more : (j : Instance) (x : Value) → ReadsByEach p v es j x → ReadsByEach p w fs j x
-  read_more j x h = λ names named. read_by names (still names named) j x (h names named)
+  read_more j x h = λ names agrees. read_by names (still names agrees) j x (h names (agrees_before p more.made agrees))
 
   -- and so does what is saved
   pub saved_on : (s : System) (x : Saved) → AreSaved s (reads_here p v es) x → AreSaved s (reads_here p w fs) x
-  saved_on s x h = saved_more {r = reads_here p v es} {t = reads_here p w fs} read_more (λ n is. is) (λ c k. k) x h
+  saved_on s x h = saved_more {r = reads_here p v es} {t = reads_here p w fs} read_more (λ n agrees. agrees_before p more.made agrees) (node_known_later p more.made) x h
 
   pub kept_on : (s : System) (o : Option Saved) → IsKept s (reads_here p v es) o → IsKept s (reads_here p w fs) o
   kept_on s None h = tt

@@ -13,20 +13,20 @@ use Rattle.attr_rules.specs.declared.kinds.Kind.TheVariants as kinds
 use Rattle.equation_law.specs.declared.coding.Value.TheVariants as coded
 use Rattle.equation_law.specs.declared.system.System.{System}
 use Rattle.equation_law.specs.Checked.{IsValue, nodes as are_nodes, texts as are_texts, truth as is_truth}
-use Rattle.equation_law.specs.Codes.{IsNamingOf, IsReference, Naming, nodes_by, reference_by, value_by}
+use Rattle.equation_law.specs.Codes.{IsNamingOf, Naming, nodes_by, reference_by, value_by}
 use Rattle.equation_law.specs.Equations.{kind_in}
-use Rattle.equation_law.specs.Keys.{IsElementCode}
 use Rattle.equation_law.specs.Names.{At, Instance, NodeName, node_cmp, text_cmp}
 use Rattle.equation_law.specs.Orders.{IsAtMost, FitsKind}
 use Rattle.equation_law.specs.Program.{Program}
-use Rattle.equation_law.specs.Sets.{SetBy, has, set_of}
+use Rattle.equation_law.specs.Sets.{SetBy, has}
 use Rattle.equation_law.specs.Systems.{program_of}
-use Rattle.equation_law.specs.Values.{Nodes, Texts, Truth, combined, has_node, nodes as nodes_in}
+use Rattle.equation_law.specs.Values.{Nodes, Texts, Truth, has_node}
 use Rattle.equation_law.proofs.Names.{code_anti, is_equal, node_anti}
 use Rattle.equation_law.proofs.Orders.{node_total}
 use Rattle.equation_law.proofs.Sets.{has-set_of, none_has}
 use Rattle.memo_cells.specs.declared.view.Frame.{Frame}
 use Rattle.memo_cells.specs.declared.view.View.{View}
+use Rattle.memo_cells.specs.Agreeing.{Agrees, IsElementAt, IsKnownNode, IsReferenceAt}
 use Rattle.memo_cells.specs.Showing.{ShowsAtLeast, ShowsCode, ShowsTrue}
 use Rattle.memo_cells.specs.Standing.{AreApproximations}
 use Rattle.memo_cells.specs.Views.{Has}
@@ -34,11 +34,10 @@ use Rattle.memo_cells.proofs.Counting.{any_has, has_any}
 use Rattle.memo_cells.proofs.Showing.{not_both}
 use Rattle.set_values.specs.CodedSets.{nodes_set, texts_set}
 use Rattle.set_values.proofs.Coded.{holds_made, holds_of}
-use Rattle.set_values.proofs.NodeCodes.{AreApart, IsNode, has_node_by, made_nodes}
+use Rattle.set_values.proofs.NodeCodes.{AreApart, IsNode, has_node_by}
 use Rattle.set_values.proofs.TextCodes.{IsKnown, has_text_by}
 use Rattle.memo_cells.specs.SetRaising.{ClaimsWords, IsWordWith, LacksWord, MayShowAll}
 use Rattle.circular_eval.specs.Left.{code_bound, missing}
-use Rattle.circular_eval.specs.Local.{IsTied}
 use Rattle.circular_eval.specs.Rising.{IsMore, IsRisen}
 use Rattle.circular_eval.proofs.Left.{missing_less}
 
@@ -131,14 +130,17 @@ joined_less : (p : Program) (v : View) (i : Instance) (a b both : List ℕ) → 
 joined_less p v i a b both m =
     missing_less code_bound b both (λ c h. or_second (has_code a c) (has_code b c) (has_code both c) (m.made.members c) h) m.code m.low m.in_other (or_first (has_code a m.code) (has_code b m.code) (has_code both m.code) (m.made.members m.code) m.in_set)
 
-module _ (s : System) (names : Naming) (named : IsNamingOf (program_of s) names) (v : View) (i : Instance) where
+module _ (s : System) (names : Naming) (v : View) (agrees : Agrees (program_of s) v.made names) (i : Instance) where
   abbrev p : Program
   p = program_of s
+
+  named : IsNamingOf p names
+  named = agrees.named
 
   pub texts_risen : kind_in p i ≡ kinds.Texts → (a b both : List ℕ) → IsMore p v i a b both → All (IsKnown s) a → All (IsKnown s) b → ShowsAtLeast p v i kinds.Texts (value_by names (coded.Texts b)) → IsRisen p names v i (coded.Texts a) (coded.Texts b) (coded.Texts both)
   texts_risen k a b both m ea eb shown = record {
     elements = holds_made (IsKnown s) Union a b both ea eb m.made;
-    tied = λ others other. ap (λ (f : ℕ → List ℕ). Texts (set_of (map f both))) (other.texts ∙ sym named.texts);
+    known = tt;
     fits = subst (λ (j : Kind). FitsKind j (value_by names (coded.Texts both))) (sym k) (texts_set names both, refl);
     shown = subst (λ (j : Kind). ShowsAtLeast p v i j (value_by names (coded.Texts both))) (sym k) (λ t h.
         let c = text_coded names both t h in
@@ -147,18 +149,15 @@ module _ (s : System) (names : Naming) (named : IsNamingOf (program_of s) names)
     more = joined_less p v i a b both m;
   }
 
-  pub nodes_risen : (d : ClassId) → kind_in p i ≡ kinds.Nodes d → AreApproximations p v → (a b both : List ℕ) → IsMore p v i a b both → All IsNode a → All IsNode b → IsTied p names (coded.Nodes a) → IsTied p names (coded.Nodes b) → ShowsAtLeast p v i (kinds.Nodes d) (value_by names (coded.Nodes b)) → IsRisen p names v i (coded.Nodes a) (coded.Nodes b) (coded.Nodes both)
-  nodes_risen d k near a b both m ea eb ta tb shown = record {
+  pub nodes_risen : (d : ClassId) → kind_in p i ≡ kinds.Nodes d → AreApproximations p v → (a b both : List ℕ) → IsMore p v i a b both → All IsNode a → All IsNode b → All (IsKnownNode v.made) a → All (IsKnownNode v.made) b → ShowsAtLeast p v i (kinds.Nodes d) (value_by names (coded.Nodes b)) → IsRisen p names v i (coded.Nodes a) (coded.Nodes b) (coded.Nodes both)
+  nodes_risen d k near a b both m ea eb ka kb shown = record {
     elements = holds_made IsNode Union a b both ea eb m.made;
-    tied = λ others other.
-        let first : nodes_set others.node a ≡ nodes_set names.node a = ap nodes_in (ta others other) in
-        let second : nodes_set others.node b ≡ nodes_set names.node b = ap nodes_in (tb others other) in
-        ap Nodes (made_nodes others.node other.one_code Union a b both ea eb m.made ∙ (λ j. combined Union (first j) (second j)) ∙ sym (made_nodes names.node named.one_code Union a b both ea eb m.made));
+    known = holds_made (IsKnownNode v.made) Union a b both ka kb m.made;
     fits = subst (λ (j : Kind). FitsKind j (value_by names (coded.Nodes both))) (sym k) (nodes_set names.node both, refl);
     shown = subst (λ (j : Kind). ShowsAtLeast p v i j (value_by names (coded.Nodes both))) (sym k) (λ n h.
         let c = node_coded names.node both n h in
         let old = λ (e : has_code b c.0 ≡ true). shown n (coded_node names.node named.one_code b eb c.0 n c.2 e) in
-        let tied = λ (y : ShowsCode p v i c.0). let is = subst (λ (j : Kind). IsElementCode p j c.0) k (near.codes i c.0 y) in subst (IsReference p c.0) (sym (is.1.1 names named) ∙ c.2) is.1.1 in
+        let tied = λ (y : ShowsCode p v i c.0). let is = subst (λ (j : Kind). IsElementAt p v.made j c.0) k (near.codes i c.0 y) in subst (IsReferenceAt p v.made c.0) (sym (is.1.1 names agrees) ∙ c.2) is.1.1 in
         ⊎_elim (λ x. ⊎_elim old (λ y. (c.0, tied y, y)) (m.shown c.0 x)) old (or_parts (has_code a c.0) (has_code b c.0) (has_code both c.0) (m.made.members c.0) c.1));
     more = joined_less p v i a b both m;
   }
@@ -185,7 +184,7 @@ truth_most names a b h = record { in_truth = h; in_texts = λ t x. absurd (none_
 pub truth_risen : (p : Program) (names : Naming) (v : View) (i : Instance) → kind_in p i ≡ kinds.Truth → ShowsTrue p v i → IsRisen p names v i (coded.Truth true) (coded.Truth false) (coded.Truth true)
 truth_risen p names v i k shown = record {
   elements = tt;
-  tied = λ others other. refl;
+  known = tt;
   fits = subst (λ (j : Kind). FitsKind j (Truth true)) (sym k) (true, refl);
   shown = subst (λ (j : Kind). ShowsAtLeast p v i j (Truth true)) (sym k) (λ e. shown);
   more = omega arith;

@@ -8,9 +8,10 @@ use Rattle.std.specs.Prelude.{OnOk}
 use Rattle.rag_io.specs.declared.Memory.{Memory}
 use Rattle.equation_law.specs.declared.coding.Instance.{Instance as CodedInstance}
 use Rattle.equation_law.specs.declared.coding.Value.{Value as CodedValue}
-use Rattle.equation_law.specs.Codes.{ByEachNaming, instance_by}
+use Rattle.equation_law.specs.Codes.{instance_by}
 use Rattle.equation_law.specs.Program.{Program}
 use Rattle.memo_cells.specs.declared.keys.Slot.{Slot}
+use Rattle.memo_cells.specs.Agreeing.{ByEachAgreeing}
 use Rattle.memo_cells.specs.Working.{GoesOn, Held}
 use Rattle.memo_cells.proofs.Holding.{goes_then}
 use Rattle.circular_eval.specs.declared.local.Local.{Local}
@@ -106,7 +107,7 @@ waited_before c d e i on w =
       before = goes_then c d w.then on w.before;
       after = w.after;
       need = w.need;
-      missing = subst (λ (p : Program). ByEachNaming p (λ names. IsMissingFrom p names w.then.view i w.need)) same w.missing;
+      missing = subst (λ (p : Program). ByEachAgreeing p w.then.view.made (λ names. IsMissingFrom p names w.then.view i w.need)) same w.missing;
     }
 
 -- a member that had to wait in a later part

@@ -12,21 +12,21 @@ use Rattle.attr_rules.specs.Types.{truth_kind}
 use Rattle.equation_law.specs.declared.coding.Value.{Value as CodedValue}
 use Rattle.equation_law.specs.declared.coding.Value.TheVariants as coded
 use Rattle.equation_law.specs.declared.system.System.{System}
-use Rattle.equation_law.specs.Checked.{HasSourcesAlone, IsNodeOf, IsValue, int as is_int, node as is_node, nodes as are_nodes, text as is_text}
-use Rattle.equation_law.specs.Codes.{IsNamingOf, Naming, reference_by, value_by}
+use Rattle.equation_law.specs.Checked.{IsNodeOf, IsValue, int as is_int, node as is_node, nodes as are_nodes, text as is_text}
+use Rattle.equation_law.specs.Codes.{Naming, reference_by, value_by}
 use Rattle.equation_law.specs.Equations.{HasValue, kind_in}
-use Rattle.equation_law.specs.Keys.{HasCode, IsElementCode}
 use Rattle.equation_law.specs.Names.{At, Instance, NodeName, Reference}
 use Rattle.equation_law.specs.Orders.{FitsKind, IsAtMost}
 use Rattle.equation_law.specs.Program.{Program}
 use Rattle.equation_law.specs.Sets.{has}
 use Rattle.equation_law.specs.Values.{Int, Node, Nodes, Text, Value, has_node}
-use Rattle.equation_law.proofs.Tied.{node_tied, tied_has}
+use Rattle.memo_cells.specs.Agreeing.{Agrees, HasCodeAt, IsElementAt, IsKnownNode, IsReferenceAt}
 use Rattle.memo_cells.specs.Naming.{IsCellOf}
 use Rattle.memo_cells.specs.Showing.{IsWordSeen, ShowsAtLeast, ShowsTrue}
 use Rattle.memo_cells.specs.Standing.{AreApproximations, HasWord, IsShown, MayRaise}
 use Rattle.memo_cells.specs.Views.{Has, times}
 use Rattle.memo_cells.specs.Working.{GoesOn, Held, IsOwn, program_at}
+use Rattle.memo_cells.proofs.Agreeing.{IsOpen, agrees_before, meaning_each, own_open, stands_has, value_known_later}
 use Rattle.memo_cells.proofs.Naming.{cell_later}
 use Rattle.memo_cells.proofs.Showing.{at_least_later, has_code_more, not_both, values_shown_later}
 use Rattle.set_values.specs.CodedSets.{nodes_set, texts_set}
@@ -41,7 +41,6 @@ use Rattle.circular_eval.proofs.Going.{program_on}
 use Rattle.circular_eval.proofs.Lowering.{comes_below}
 use Rattle.circular_eval.proofs.Raised.{err_is, no_claims}
 use Rattle.circular_eval.proofs.Rising.{code_there, kind_of_nodes, kind_of_texts, kind_of_truth, nodes_most, nodes_risen, texts_most, texts_risen, there_code, truth_most, truth_risen}
-use Rattle.circular_eval.proofs.Tied.{typed_tied}
 
 -- both as they are coded
 pub as_coded : (d e : Held) (place : ℕ) (value other x y : CodedValue) (r : Result (Option CodedValue) CircFault) → value ≡ x → other ≡ y → RaisesValue d e place x y r → RaisesValue d e place value other r
@@ -54,8 +53,8 @@ may_coded d names i place value other x y a b h = subst (λ (z : CodedValue × C
 pub truth_none : (d : Held) → IsOwn d → (place : ℕ) (a b : Bool) → (a ≡ true → b ≡ true) → RaisesValue d d place (coded.Truth a) (coded.Truth b) (Ok None)
 truth_none d own place a b h = record {
   on = goes_itself d own;
-  answer = λ names named i may. truth_most names a b h;
-  claims = λ names named i may. no_claims (program_at d) d.view i [];
+  answer = λ names agrees i may. truth_most names a b h;
+  claims = λ names agrees i may. no_claims (program_at d) d.view i [];
 }
 
 kind_is : (d : Held) (names : Naming) (i : Instance) (place : ℕ) (a b : Bool) → MayRise d names i place (coded.Truth a) (coded.Truth b) → kind_in (program_at d) i ≡ kinds.Truth
@@ -74,8 +73,8 @@ module _ (d e : Held) (place : ℕ) (a b : Bool) (on : GoesOn d e) (plain : (i :
   pub truth_full : ((i : Instance) → IsCellOf (program_at d) d.frame e.view i place → is_single (kind_in (program_at d) i) ≡ false) → (r : Result (Option CodedValue) CircFault) → RaisesValue d e place (coded.Truth a) (coded.Truth b) r
   truth_full set r = record {
     on = on;
-    answer = λ names named i may. absurd (not_both (set i (later names i may)) (ap is_single (kind_is d names i place a b may)));
-    claims = λ names named i may. truth_claims names i may;
+    answer = λ names agrees i may. absurd (not_both (set i (later names i may)) (ap is_single (kind_is d names i place a b may)));
+    claims = λ names agrees i may. truth_claims names i may;
   }
 
   one_bit : (x : ℕ) → x ≤ 1 → bit_at x 0 ≡ 1 → x ≡ 1
@@ -89,11 +88,11 @@ module _ (d e : Held) (place : ℕ) (a b : Bool) (on : GoesOn d e) (plain : (i :
   pub truth_more : a ≡ true → b ≡ false → (x : ℕ) → HasWord (program_at d) d.frame e.view place 0 1 x → RaisesValue d e place (coded.Truth a) (coded.Truth b) (Ok (Some (coded.Truth true)))
   truth_more h k x word = record {
     on = on;
-    answer = λ names named i may.
+    answer = λ names agrees i may.
         let kind = kind_is d names i place a b may in
         subst (λ (z : Bool × Bool). AnswersRaise (program_at d) names d.frame e.view i (coded.Truth z.0) (coded.Truth z.1) (Ok (Some (coded.Truth true)))) (λ j. (sym h j, sym k j))
         (truth_risen (program_at d) names e.view i kind (seen_true i (kind_in (program_at d) i) x kind (word.seen i (later names i may)) (word.added 0 refl)));
-    claims = λ names named i may. truth_claims names i may;
+    claims = λ names agrees i may. truth_claims names i may;
   }
 
 -- sets
@@ -102,17 +101,17 @@ wrapped f (Ok None) = Ok None
 wrapped f (Ok (Some x)) = Ok (Some (f x))
 wrapped f (Err fault) = Err fault
 
-module _ (d : Held) (names : Naming) (named : IsNamingOf (program_at d) names) (i : Instance) (place : ℕ) (a : List ℕ) (b : CodedValue) where
+module _ (d : Held) (names : Naming) (agrees : Agrees (program_at d) d.view.made names) (i : Instance) (place : ℕ) (a : List ℕ) (b : CodedValue) where
   abbrev s : System
   s = d.frame.system.value
 
   abbrev p : Program
   p = program_at d
 
-  text_element : kind_in p i ≡ kinds.Texts → All (IsKnown s) a → (c : ℕ) → Has a c → IsElementCode p (kind_in p i) c × HasCode p (kind_in p i) (value_by names (coded.Texts a)) c
+  text_element : kind_in p i ≡ kinds.Texts → All (IsKnown s) a → (c : ℕ) → Has a c → IsElementAt p d.view.made (kind_in p i) c × HasCodeAt p d.view.made (kind_in p i) (value_by names (coded.Texts a)) c
   text_element k all c there =
       let known = holds_of (IsKnown s) a all c (there_code a c there) in
-      subst (λ (j : Kind). IsElementCode p j c × HasCode p j (value_by names (coded.Texts a)) c) (sym k) (known, ap (λ (f : ℕ → List ℕ). has (texts_set names a) (f c)) (sym named.texts) ∙ has_text_by s named c known a all ∙ there_code a c there)
+      subst (λ (j : Kind). IsElementAt p d.view.made j c × HasCodeAt p d.view.made j (value_by names (coded.Texts a)) c) (sym k) (known, ap (λ (f : ℕ → List ℕ). has (texts_set names a) (f c)) (sym agrees.named.texts) ∙ has_text_by s agrees.named c known a all ∙ there_code a c there)
 
   pub texts_show : MayRise d names i place (coded.Texts a) b → MayShowAll p d.frame d.view i place a
   texts_show may = record {
@@ -133,32 +132,38 @@ module _ (d : Held) (names : Naming) (named : IsNamingOf (program_at d) names) (
   node_code c h zero low e = absurd (omega (arith, low))
   node_code c h (suc k) low e = h (names.node k) e
 
-  node_element : HasSourcesAlone p → (c : ClassId) → kind_in p i ≡ kinds.Nodes c → IsValue p (kind_in p i) (Nodes (nodes_set names.node a)) → All IsNode a → (k : ℕ) → Has a k → IsElementCode p (kind_in p i) k × HasCode p (kind_in p i) (value_by names (coded.Nodes a)) k
-  node_element bare c q typed all k there =
+  node_element : (c : ClassId) → kind_in p i ≡ kinds.Nodes c → IsValue p (kind_in p i) (Nodes (nodes_set names.node a)) → All IsNode a → All (IsKnownNode d.view.made) a → (k : ℕ) → Has a k → IsElementAt p d.view.made (kind_in p i) k × HasCodeAt p d.view.made (kind_in p i) (value_by names (coded.Nodes a)) k
+  node_element c q typed all known k there =
       let low = holds_of IsNode a all k (there_code a k there) in
-      let within = has_node_by names.node named.one_code k a all ∙ there_code a k there in
+      let near = holds_of (IsKnownNode d.view.made) a known k (there_code a k there) in
+      let within = has_node_by names.node agrees.named.one_code k a all ∙ there_code a k there in
+      let r = reference_by names.node k in
       let of = node_code c (node_there c (kind_in p i) q typed) k low within in
+      let stands : IsReferenceAt p d.view.made k r = meaning_each p d.view.made agrees k r near refl in
       let x = value_by names (coded.Nodes a) in
-      subst (λ (j : Kind). IsElementCode p j k × HasCode p j x k) (sym q) ((low, (reference_by names.node k, node_tied p bare named c k of, of)), tied_has p c x k (reference_by names.node k) (node_tied p bare named c k of) within)
+      subst (λ (j : Kind). IsElementAt p d.view.made j k × HasCodeAt p d.view.made j x k) (sym q) ((low, (r, stands, of), near), stands_has p d.view.made x k r c stands within)
 
-  pub nodes_show : HasSourcesAlone p → MayRise d names i place (coded.Nodes a) b → MayShowAll p d.frame d.view i place a
-  nodes_show bare may =
+  pub nodes_show : MayRise d names i place (coded.Nodes a) b → MayShowAll p d.frame d.view i place a
+  nodes_show may =
       let k = kind_of_nodes p (kind_in p i) (nodes_set names.node a) may.typed in
       record {
         cell = may.cell;
         instance = may.instance;
         value = value_by names (coded.Nodes a);
         may = inl (may.is_circular, may.comes);
-        elements = node_element bare k.0 k.1 may.typed may.elements;
+        elements = node_element k.0 k.1 may.typed may.elements may.known;
       }
 
-module _ (d e : Held) (names : Naming) (named : IsNamingOf (program_at d) names) (place : ℕ) (a b : List ℕ) (on : GoesOn d e) where
+module _ (d e : Held) (names : Naming) (agrees : Agrees (program_at d) e.view.made names) (place : ℕ) (a b : List ℕ) (on : GoesOn d e) where
   abbrev q : Program
   q = program_at d
 
-  -- the program makes nothing
-  its_bare : HasSourcesAlone q
-  its_bare = subst HasSourcesAlone (program_on d e on) on.own.bare
+  -- it agreed before
+  before : Agrees q d.view.made names
+  before = agrees_before q on.kept.made agrees
+
+  open_now : IsOpen q e.view.made
+  open_now = subst (λ (u : Program). IsOpen u e.view.made) (program_on d e on) (own_open e.frame e.view [] on.own)
 
   near_now : AreApproximations q e.view
   near_now = subst (λ (u : Program). AreApproximations u e.view) (program_on d e on) on.own.approximations
@@ -166,53 +171,53 @@ module _ (d e : Held) (names : Naming) (named : IsNamingOf (program_at d) names)
   -- a value is at most the other one, if that is final
   final_most : (i : Instance) (value other : CodedValue) → MayRise d names i place value other → HasValue q i (value_by names other) → IsAtMost (value_by names value) (value_by names other)
   final_most i value other may has =
-      comes_below q e.view near_now i may.is_circular (value_by names value)
+      comes_below q e.view near_now open_now i may.is_circular (value_by names value)
       (record { below = may.comes.below; shown = values_shown_later q d.view e.view on.kept may.comes.below may.comes.shown; demands = may.comes.demands; ends = may.comes.ends })
       (value_by names other) has
 
   -- then the other one has all codes
   texts_had : (i : Instance) → kind_in q i ≡ kinds.Texts → MayRise d names i place (coded.Texts a) (coded.Texts b) → HasValue q i (value_by names (coded.Texts b)) → (c : ℕ) → in_codes a c ≡ true → in_codes b c ≡ true
   texts_had i k may solved c h =
-      let within = (text_element d names named i place a (coded.Texts b) k may.elements c (code_there a c h)).1 in
-      let more : HasCode q (kind_in q i) (value_by names (coded.Texts b)) c = has_code_more q (kind_in q i) (value_by names (coded.Texts a)) (value_by names (coded.Texts b)) c (final_most i (coded.Texts a) (coded.Texts b) may solved) within in
-      sym (ap (λ (f : ℕ → List ℕ). has (texts_set names b) (f c)) (sym named.texts) ∙ has_text_by d.frame.system.value named c (holds_of (IsKnown d.frame.system.value) a may.elements c h) b may.of) ∙ subst (λ (j : Kind). HasCode q j (value_by names (coded.Texts b)) c) k more
+      let within = (text_element d names before i place a (coded.Texts b) k may.elements c (code_there a c h)).1 in
+      let more : HasCodeAt q d.view.made (kind_in q i) (value_by names (coded.Texts b)) c = has_code_more q d.view.made (kind_in q i) (value_by names (coded.Texts a)) (value_by names (coded.Texts b)) c (final_most i (coded.Texts a) (coded.Texts b) may solved) within in
+      sym (ap (λ (f : ℕ → List ℕ). has (texts_set names b) (f c)) (sym agrees.named.texts) ∙ has_text_by d.frame.system.value agrees.named c (holds_of (IsKnown d.frame.system.value) a may.elements c h) b may.of) ∙ subst (λ (j : Kind). HasCodeAt q d.view.made j (value_by names (coded.Texts b)) c) k more
 
   nodes_had : (i : Instance) (n : ClassId) → kind_in q i ≡ kinds.Nodes n → MayRise d names i place (coded.Nodes a) (coded.Nodes b) → HasValue q i (value_by names (coded.Nodes b)) → (c : ℕ) → in_codes a c ≡ true → in_codes b c ≡ true
   nodes_had i n k may has c h =
-      let within = (node_element d names named i place a (coded.Nodes b) its_bare n k may.typed may.elements c (code_there a c h)).1 in
-      let more : HasCode q (kind_in q i) (value_by names (coded.Nodes b)) c = has_code_more q (kind_in q i) (value_by names (coded.Nodes a)) (value_by names (coded.Nodes b)) c (final_most i (coded.Nodes a) (coded.Nodes b) may has) within in
-      sym (has_node_by names.node named.one_code c b may.of) ∙ subst (λ (j : Kind). HasCode q j (value_by names (coded.Nodes b)) c) k more names named
+      let within = (node_element d names before i place a (coded.Nodes b) n k may.typed may.elements may.known c (code_there a c h)).1 in
+      let more : HasCodeAt q d.view.made (kind_in q i) (value_by names (coded.Nodes b)) c = has_code_more q d.view.made (kind_in q i) (value_by names (coded.Nodes a)) (value_by names (coded.Nodes b)) c (final_most i (coded.Nodes a) (coded.Nodes b) may has) within in
+      sym (has_node_by names.node agrees.named.one_code c b may.of) ∙ subst (λ (j : Kind). HasCodeAt q d.view.made j (value_by names (coded.Nodes b)) c) k more names before
 
   -- so the other one isn't final where it hasn't, and it is shown
   later_shown : (i : Instance) (k : Kind) (x : Value) → kind_in q i ≡ k → (HasValue q i x → ⊥) → IsShown q d.view i x → ShowsAtLeast q e.view i k x
   later_shown i k x is not_final h = ⊎_elim (λ least. at_least_later q d.view e.view on.kept i k x (subst (λ (j : Kind). ShowsAtLeast q d.view i j x) is least)) (λ known. absurd (not_final known.1)) h
 
   texts_answer : (i : Instance) → MayRise d names i place (coded.Texts a) (coded.Texts b) → (r : Result (Option (List ℕ)) CircFault) → AnswersSet q d.frame e.view i a b r → AnswersRaise q names d.frame e.view i (coded.Texts a) (coded.Texts b) (wrapped coded.Texts r)
-  texts_answer i may (Ok None) h = texts_most d.frame.system.value names named e.view i a b may.of h
+  texts_answer i may (Ok None) h = texts_most d.frame.system.value names e.view agrees i a b may.of h
   texts_answer i may (Ok (Some both)) h =
       let k = kind_of_texts q (kind_in q i) (texts_set names a) may.typed in
-      texts_risen d.frame.system.value names named e.view i k a b both h may.elements may.of (later_shown i kinds.Texts (value_by names (coded.Texts b)) k (λ has. not_both h.in_other (texts_had i k may has h.code h.in_set)) may.shown)
+      texts_risen d.frame.system.value names e.view agrees i k a b both h may.elements may.of (later_shown i kinds.Texts (value_by names (coded.Texts b)) k (λ has. not_both h.in_other (texts_had i k may has h.code h.in_set)) may.shown)
   texts_answer i may (Err fault) h = h
 
   nodes_answer : (i : Instance) → MayRise d names i place (coded.Nodes a) (coded.Nodes b) → (r : Result (Option (List ℕ)) CircFault) → AnswersSet q d.frame e.view i a b r → AnswersRaise q names d.frame e.view i (coded.Nodes a) (coded.Nodes b) (wrapped coded.Nodes r)
-  nodes_answer i may (Ok None) h = nodes_most d.frame.system.value names named e.view i a b may.of h
+  nodes_answer i may (Ok None) h = nodes_most d.frame.system.value names e.view agrees i a b may.of h
   nodes_answer i may (Ok (Some both)) h =
       let k = kind_of_nodes q (kind_in q i) (nodes_set names.node a) may.typed in
-      nodes_risen d.frame.system.value names named e.view i k.0 k.1 near_now a b both h may.elements may.of (typed_tied q its_bare named (kind_in q i) (coded.Nodes a) may.elements may.typed) may.tied (later_shown i (kinds.Nodes k.0) (value_by names (coded.Nodes b)) k.1 (λ has. not_both h.in_other (nodes_had i k.0 k.1 may has h.code h.in_set)) may.shown)
+      nodes_risen d.frame.system.value names e.view agrees i k.0 k.1 near_now a b both h may.elements may.of (value_known_later q on.kept.made (coded.Nodes a) may.known) (value_known_later q on.kept.made (coded.Nodes b) may.of_known) (later_shown i (kinds.Nodes k.0) (value_by names (coded.Nodes b)) k.1 (λ has. not_both h.in_other (nodes_had i k.0 k.1 may has h.code h.in_set)) may.shown)
   nodes_answer i may (Err fault) h = h
 
 pub texts_raised : (d e : Held) (place : ℕ) (a b : List ℕ) (r : Result (Option (List ℕ)) CircFault) → RaisesSet d e place a b r → RaisesValue d e place (coded.Texts a) (coded.Texts b) (wrapped coded.Texts r)
 texts_raised d e place a b r h = record {
   on = h.on;
-  answer = λ names named i may. texts_answer d e names named place a b h.on i may r (h.answer i (texts_show d names named i place a (coded.Texts b) may));
-  claims = λ names named i may. h.claims i (texts_show d names named i place a (coded.Texts b) may);
+  answer = λ names agrees i may. texts_answer d e names agrees place a b h.on i may r (h.answer i (texts_show d names (agrees_before (program_at d) h.on.kept.made agrees) i place a (coded.Texts b) may));
+  claims = λ names agrees i may. h.claims i (texts_show d names (agrees_before (program_at d) h.on.kept.made agrees) i place a (coded.Texts b) may);
 }
 
 pub nodes_raised : (d e : Held) (place : ℕ) (a b : List ℕ) (r : Result (Option (List ℕ)) CircFault) → RaisesSet d e place a b r → RaisesValue d e place (coded.Nodes a) (coded.Nodes b) (wrapped coded.Nodes r)
 nodes_raised d e place a b r h = record {
   on = h.on;
-  answer = λ names named i may. nodes_answer d e names named place a b h.on i may r (h.answer i (nodes_show d names named i place a (coded.Nodes b) (subst HasSourcesAlone (program_on d e h.on) h.on.own.bare) may));
-  claims = λ names named i may. h.claims i (nodes_show d names named i place a (coded.Nodes b) (subst HasSourcesAlone (program_on d e h.on) h.on.own.bare) may);
+  answer = λ names agrees i may. nodes_answer d e names agrees place a b h.on i may r (h.answer i (nodes_show d names (agrees_before (program_at d) h.on.kept.made agrees) i place a (coded.Nodes b) may));
+  claims = λ names agrees i may. h.claims i (nodes_show d names (agrees_before (program_at d) h.on.kept.made agrees) i place a (coded.Nodes b) may);
 }
 
 -- the error of raising a set is handed on
@@ -275,12 +280,12 @@ not_single p names k (coded.Texts a) other typed fits x y z = y a refl
 not_single p names k (coded.Nodes a) other typed fits x y z = z a refl
 
 -- the codes of a set to which an equation comes are those of its elements
-pub value_elements : (d : Held) → HasSourcesAlone (program_at d) → (names : Naming) (named : IsNamingOf (program_at d) names) (i : Instance) (place : ℕ) (value other : CodedValue) → MayRise d names i place value other → (c : ℕ) → Has (set_codes value) c → IsElementCode (program_at d) (kind_in (program_at d) i) c × HasCode (program_at d) (kind_in (program_at d) i) (value_by names value) c
-value_elements d bare names named i place (coded.Truth b) other may c there = absurd there
-value_elements d bare names named i place (coded.Int z) other may c there = absurd there
-value_elements d bare names named i place (coded.Text t) other may c there = absurd there
-value_elements d bare names named i place (coded.Node n) other may c there = absurd there
-value_elements d bare names named i place (coded.Texts a) other may c there = text_element d names named i place a other (kind_of_texts (program_at d) (kind_in (program_at d) i) (texts_set names a) may.typed) may.elements c there
-value_elements d bare names named i place (coded.Nodes a) other may c there =
+pub value_elements : (d : Held) (names : Naming) (agrees : Agrees (program_at d) d.view.made names) (i : Instance) (place : ℕ) (value other : CodedValue) → MayRise d names i place value other → (c : ℕ) → Has (set_codes value) c → IsElementAt (program_at d) d.view.made (kind_in (program_at d) i) c × HasCodeAt (program_at d) d.view.made (kind_in (program_at d) i) (value_by names value) c
+value_elements d names agrees i place (coded.Truth b) other may c there = absurd there
+value_elements d names agrees i place (coded.Int z) other may c there = absurd there
+value_elements d names agrees i place (coded.Text t) other may c there = absurd there
+value_elements d names agrees i place (coded.Node n) other may c there = absurd there
+value_elements d names agrees i place (coded.Texts a) other may c there = text_element d names agrees i place a other (kind_of_texts (program_at d) (kind_in (program_at d) i) (texts_set names a) may.typed) may.elements c there
+value_elements d names agrees i place (coded.Nodes a) other may c there =
     let k = kind_of_nodes (program_at d) (kind_in (program_at d) i) (nodes_set names.node a) may.typed in
-    node_element d names named i place a other bare k.0 k.1 may.typed may.elements c there
+    node_element d names agrees i place a other k.0 k.1 may.typed may.elements may.known c there

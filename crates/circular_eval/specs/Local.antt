@@ -6,7 +6,7 @@ use Rattle.equation_law.specs.declared.coding.Instance.{Instance as CodedInstanc
 use Rattle.equation_law.specs.declared.coding.Value.{Value as CodedValue}
 use Rattle.equation_law.specs.declared.system.System.{System}
 use Rattle.equation_law.specs.Checked.{IsInstance}
-use Rattle.equation_law.specs.Codes.{AreElements, ByEachNaming, IsCoded, NamesInOrder, Naming, instance_by, value_by}
+use Rattle.equation_law.specs.Codes.{AreElements, ByEachNaming, IsCoded, Naming, instance_by, value_by}
 use Rattle.equation_law.specs.Equations.{HasValue, bottom_of, equations_of, is_declared, kind_in}
 use Rattle.equation_law.specs.Loops.{Leads, order_in}
 use Rattle.equation_law.specs.Names.{Instance, same_instance}
@@ -19,6 +19,7 @@ use Rattle.expr_eval.specs.Saved.{AreSaved}
 use Rattle.memo_cells.specs.declared.keys.Slot.{Slot}
 use Rattle.memo_cells.specs.declared.view.Frame.{Frame}
 use Rattle.memo_cells.specs.declared.view.View.{View}
+use Rattle.memo_cells.specs.Agreeing.{Agrees, ByEachAgreeing, IsKnownInstance, IsKnownNode, IsKnownValue}
 use Rattle.memo_cells.specs.Naming.{IsCellOf}
 use Rattle.memo_cells.specs.Standing.{IsShown, Knows}
 use Rattle.memo_cells.specs.Views.{Has}
@@ -44,17 +45,13 @@ with_value (e ∷ es) (suc n) x = e ∷ with_value es n x
 abbrev pub AreKept : Program → Naming → Members → Type 0
 AreKept p names es = (e : CodedInstance × Member) → Has es e → IsCoded p e.0 × AreElements p e.1.value × FitsKind (kind_in p (instance_by p names e.0)) (value_by names e.1.value)
 
--- a coded value is tied: each naming for the program gives it the value that this one gives it
-abbrev pub IsTied : Program → Naming → CodedValue → Type 0
-IsTied p names x = ByEachNaming p (λ others. value_by others x ≡ value_by names x)
+-- the nodes of the members and those in their values are known by these makers
+abbrev pub AreKnownMembers : Program → List CodedInstance → Members → Type 0
+AreKnownMembers p ms es = (e : CodedInstance × Member) → Has es e → IsKnownInstance p ms e.0 × IsKnownValue ms e.1.value
 
--- the members are instances of the program, and their values are tied
-abbrev pub AreTied : Program → Naming → Members → Type 0
-AreTied p names es = (e : CodedInstance × Member) → Has es e → IsInstance p (instance_by p names e.0) × IsTied p names e.1.value
-
--- both, by each naming
-abbrev pub AreReadable : Program → Members → Type 0
-AreReadable p es = ByEachNaming p (λ names. AreKept p names es × AreTied p names es)
+-- both, by each naming that agrees with them
+abbrev pub AreReadable : Program → List CodedInstance → Members → Type 0
+AreReadable p ms es = ByEachAgreeing p ms (λ names. AreKept p names es) × AreKnownMembers p ms es
 
 -- what holds by each naming for each program with pooled texts in which i is coded well and the members are kept
 abbrev pub WhereKept : Members → CodedInstance → (Program → Naming → Type 0) → Type 0
@@ -87,16 +84,16 @@ pub data ReadsHere (p : Program) (names : Naming) (v : View) (es : Members) : In
   settled : {j : Instance} {w : Value} → is_declared p j ≡ false → IsKnown p v j w → ReadsHere p names v es j w
   here : {j : Instance} → is_declared p j ≡ true → IsMemberOf p names es j → ReadsHere p names v es j (local_value p names es j)
 
--- both by each naming
-abbrev pub MayReadByEach : Program → Members → Instance → Value → Type 0
-MayReadByEach p es j w = ByEachNaming p (λ names. MayRead p names es j w)
+-- both by each naming that agrees with what is known
+abbrev pub MayReadByEach : Program → List CodedInstance → Members → Instance → Value → Type 0
+MayReadByEach p ms es j w = ByEachAgreeing p ms (λ names. MayRead p names es j w)
 
 abbrev pub ReadsByEach : Program → View → Members → Instance → Value → Type 0
-ReadsByEach p v es j w = ByEachNaming p (λ names. ReadsHere p names v es j w)
+ReadsByEach p v es j w = ByEachAgreeing p v.made (λ names. ReadsHere p names v es j w)
 
--- a reader of that alone, which may be read by each naming for the program whose codes are in the order of their nodes, and which knows every code
+-- a reader of that alone, which may be read by each naming that agrees with what the pass knows, and which knows the nodes that the pass knows
 abbrev pub reads_here : Program → View → Members → Told Unit
-reads_here p v es = record { for = λ q. q ≡ p; has = ReadsByEach p v es; can = MayReadByEach p es; keeps = λ u. Unit {0}; names = NamesInOrder p; knows = λ c. Unit {0}; height = λ c. c }
+reads_here p v es = record { for = λ q. q ≡ p; has = ReadsByEach p v es; can = MayReadByEach p v.made es; keeps = λ u. Unit {0}; names = Agrees p v.made; knows = IsKnownNode v.made; height = λ c. c }
 
 -- the number of a member, which is j
 pub record IsNumberOf (p : Program) (names : Naming) (es : Members) (j : Instance) (number : ℕ) : Type 0 where
@@ -121,13 +118,13 @@ abbrev pub IsLedBy : Program → Naming → Members → CodedInstance → ℕ �
 IsLedBy p names es start number i None = i ≡ start
 IsLedBy p names es start number i (Some by) = (by < number) × ((e : CodedInstance × Member) × (slice_get es by ≡ Some e) × Leads p (instance_by p names e.0) (instance_by p names i))
 
--- a circular instance of the program with a value that the words show, or that is its own where it is seen sealed; the value is tied
+-- a circular instance of the program with a value that the words show, or that is its own where it is seen sealed; the pass knows the nodes in both
 pub record IsMember (p : Program) (names : Naming) (f : Frame) (v : View) (es : Members) (start : CodedInstance) (number : ℕ) (e : CodedInstance × Member) : Type 0 where
   pub instance : IsInstance p (instance_by p names e.0)
   pub coded : IsCoded p e.0
   pub is_circular : (equations_of p).circular (instance_by p names e.0) ≡ true
   pub elements : AreElements p e.1.value
-  pub tied : IsTied p names e.1.value
+  pub known : IsKnownInstance p v.made e.0 × IsKnownValue v.made e.1.value
   pub fits : FitsKind (kind_in p (instance_by p names e.0)) (value_by names e.1.value)
   pub shown : IsShown p v (instance_by p names e.0) (value_by names e.1.value)
   pub placed : IsPlaced p f v (instance_by p names e.0) (value_by names e.1.value) e.1.slot
@@ -158,14 +155,15 @@ IsKept s t (Some x) = AreSaved s t x
 pub record IsLocal (p : Program) (names : Naming) (f : Frame) (v : View) (l : Local) : Type 0 where
   pub instance : IsInstance p (instance_by p names l.start)
   pub coded : IsCoded p l.start
+  pub known : IsKnownInstance p v.made l.start
   pub is_circular : (equations_of p).circular (instance_by p names l.start) ≡ true
   pub set : AreMembers p names f v l.start l.members.entries
   pub need : IsNeedOf p names l.members.entries l.need
   pub saved : IsKept f.system.value (reads_here p v l.members.entries) l.saved
 
--- the same by each naming
+-- the same by each naming that agrees with what the pass knows
 abbrev pub IsLocalByEach : Program → Frame → View → Local → Type 0
-IsLocalByEach p f v l = ByEachNaming p (λ names. IsLocal p names f v l)
+IsLocalByEach p f v l = ByEachAgreeing p v.made (λ names. IsLocal p names f v l)
 
 -- the same under what is held
 abbrev pub IsLocalAt : Held → Local → Type 0
@@ -175,6 +173,6 @@ IsLocalAt d l = IsLocalByEach (program_at d) d.frame d.view l
 abbrev pub IsStillLocal : Held → Held → Local → Type 0
 IsStillLocal d e l = IsLocalByEach (program_at d) d.frame e.view l
 
--- a local set of i under what any pass of any cells knows, by each naming for each program by which i is a circular instance of it
+-- a local set of i under what any pass of any cells knows that knows its nodes, by each naming for each program by which i is a circular instance of it
 abbrev pub IsLocalOf : CodedInstance → Local → Type 0
-IsLocalOf i l = (p : Program) (names : Naming) (f : Frame) (v : View) → IsInstance p (instance_by p names i) → IsCoded p i → (equations_of p).circular (instance_by p names i) ≡ true → IsLocal p names f v l
+IsLocalOf i l = (p : Program) (names : Naming) (f : Frame) (v : View) → IsInstance p (instance_by p names i) → IsCoded p i → IsKnownInstance p v.made i → (equations_of p).circular (instance_by p names i) ≡ true → IsLocal p names f v l

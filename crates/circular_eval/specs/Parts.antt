@@ -3,7 +3,7 @@ use Rattle.std.specs.Prelude.{◌≡◌, ◌⊎◌, ℕ, zero, suc, ◌<◌, Boo
 use Rattle.std.specs.Option.{option_and_then, option_map}
 use Rattle.equation_law.specs.declared.coding.Instance.{Instance as CodedInstance}
 use Rattle.equation_law.specs.declared.coding.Value.{Value as CodedValue}
-use Rattle.equation_law.specs.Codes.{AreElements, ByEachNaming, Naming, instance_by, value_by}
+use Rattle.equation_law.specs.Codes.{AreElements, Naming, instance_by, value_by}
 use Rattle.equation_law.specs.Equations.{HasValue, equations_of, kind_in}
 use Rattle.equation_law.specs.Loops.{Chain}
 use Rattle.equation_law.specs.Names.{Instance}
@@ -11,13 +11,14 @@ use Rattle.equation_law.specs.Orders.{FitsKind}
 use Rattle.equation_law.specs.Program.{Program}
 use Rattle.memo_cells.specs.declared.view.Frame.{Frame}
 use Rattle.memo_cells.specs.declared.view.View.{View}
+use Rattle.memo_cells.specs.Agreeing.{ByEachAgreeing, IsKnownValue}
 use Rattle.memo_cells.specs.Standing.{Knows}
 use Rattle.memo_cells.specs.Working.{GoesOn, Held, program_at}
 use Rattle.circular_eval.specs.declared.advancing.CircFault.{CircFault}
 use Rattle.circular_eval.specs.declared.local.Local.{Local}
 use Rattle.circular_eval.specs.declared.members.Member.{Member}
 use Rattle.circular_eval.specs.Advancing.{AnswersFaultAt, IsSealed}
-use Rattle.circular_eval.specs.Local.{IsLocal, IsTied, Members}
+use Rattle.circular_eval.specs.Local.{IsLocal, Members}
 use Rattle.circular_eval.specs.Visiting.{GoesOnWith}
 use Rattle.worklists.specs.Waiting.{IsClosed}
 
@@ -55,10 +56,10 @@ IsSealedIn es i = (n : ℕ) (e : CodedInstance × Member) → slice_get es n ≡
 pub record SameMembers (es fs : Members) : Type 0 where
   pub same : (n : ℕ) (e : CodedInstance × Member) → slice_get fs n ≡ Some e → (d : CodedInstance × Member) × (slice_get es n ≡ Some d) × (e.0 ≡ d.0) × (d.1.slot ≡ None → e.1.slot ≡ None)
 
--- by a naming, the value with which i is seen sealed; it is tied
+-- by a naming, the value with which i is seen sealed; the pass knows the nodes in it
 pub record IsFinal (p : Program) (names : Naming) (v : View) (i : Instance) (x : CodedValue) : Type 0 where
   pub elements : AreElements p x
-  pub tied : IsTied p names x
+  pub value_known : IsKnownValue v.made x
   pub fits : FitsKind (kind_in p i) (value_by names x)
   pub known : Knows p v i
   pub has : HasValue p i (value_by names x)
@@ -108,7 +109,7 @@ pub record HadToWait (d e : Held) (i : CodedInstance) : Type 0 where
   pub before : GoesOn d then
   pub after : GoesOn then e
   pub need : CodedInstance
-  pub missing : ByEachNaming (program_at d) (λ names. IsMissingFrom (program_at d) names then.view i need)
+  pub missing : ByEachAgreeing (program_at d) then.view.made (λ names. IsMissingFrom (program_at d) names then.view i need)
 
 -- whether the member of this number is sealed now; where it isn't it had to wait
 abbrev pub AnswersPart : Held → Held → Members → Members → ℕ → Bool → Type 0

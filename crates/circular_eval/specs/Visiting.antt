@@ -1,11 +1,11 @@
 -- Visits of the members of a local set.
-use Rattle.std.specs.Prelude.{◌≡◌, ℕ, ◌<◌, true, Option, Some, None, IsSome, Result, Ok, Err, IfErr, OnOk, length, slice_get}
+use Rattle.std.specs.Prelude.{◌≡◌, ℕ, ◌<◌, true, List, Option, Some, None, IsSome, Result, Ok, Err, IfErr, OnOk, length, slice_get}
 use Rattle.attr_rules.specs.declared.kinds.Kind.{Kind}
 use Rattle.equation_law.specs.declared.coding.Instance.{Instance as CodedInstance}
 use Rattle.equation_law.specs.declared.system.System.{System}
 use Rattle.equation_law.specs.Checked.{IsInstance, IsProgram}
 use Rattle.equation_law.specs.declared.coding.Value.{Value as CodedValue}
-use Rattle.equation_law.specs.Codes.{AreElements, ByEachNaming, IsCoded, Naming, instance_by, value_by}
+use Rattle.equation_law.specs.Codes.{AreElements, IsCoded, Naming, instance_by, value_by}
 use Rattle.equation_law.specs.Equations.{equations_of, is_ordered, kind_in}
 use Rattle.equation_law.specs.Names.{Instance}
 use Rattle.equation_law.specs.Orders.{FitsKind}
@@ -15,10 +15,11 @@ use Rattle.expr_eval.specs.declared.saved.Saved.{Saved}
 use Rattle.expr_eval.specs.declared.sites.Turn.{Turn}
 use Rattle.memo_cells.specs.declared.view.Frame.{Frame}
 use Rattle.memo_cells.specs.declared.view.View.{View}
+use Rattle.memo_cells.specs.Agreeing.{ByEachAgreeing, IsKnownValue}
 use Rattle.memo_cells.specs.Naming.{IsCellOf}
 use Rattle.memo_cells.specs.Showing.{ShowsAtLeast}
 use Rattle.memo_cells.specs.Views.{Has}
-use Rattle.memo_cells.specs.Working.{ClaimsKeysFor, GoesOn, Held, IsForSystem, IsOwn, program_at}
+use Rattle.memo_cells.specs.Working.{ByEachAt, ClaimsKeysFor, GoesOn, Held, IsForSystem, IsKnownAt, IsOwn, program_at}
 use Rattle.circular_eval.specs.declared.advancing.CircFault.{CircFault}
 use Rattle.circular_eval.specs.declared.advancing.CircTurn.{CircTurn}
 use Rattle.circular_eval.specs.declared.local.Local.{Local}
@@ -53,18 +54,20 @@ pub record IsNew (p : Program) (names : Naming) (l : Local) (i : CodedInstance) 
   pub absent : ¬ IsMemberOf p names l.members.entries (instance_by p names i)
   pub led : IsLedBy p names l.members.entries l.start (length l.members.entries) i by
 
+-- the same by each naming that agrees with what is held, where the nodes of the instance are known
 abbrev pub IsNewAt : Held → Local → CodedInstance → Option ℕ → Type 0
-IsNewAt d l i by = ByEachNaming (program_at d) (λ names. IsNew (program_at d) names l i by)
+IsNewAt d l i by = ByEachAt d (λ names. IsNew (program_at d) names l i by) × IsKnownAt d i
 
--- by a naming, a value that a member may begin with: it is of its type, and at most what its words show
+-- by a naming, a value that a member may begin with: it is of its type, and at most what its words show; the pass knows the nodes in it
 pub record BeginsWith (p : Program) (names : Naming) (v : View) (i : Instance) (x : CodedValue) : Type 0 where
   pub elements : AreElements p x
+  pub known : IsKnownValue v.made x
   pub fits : FitsKind (kind_in p i) (value_by names x)
   pub shown : ShowsAtLeast p v i (kind_in p i) (value_by names x)
 
--- what has its cell at this place, and is of this type, a set or a truth value, may begin with x by each naming, with what is held before and after
+-- what has its cell at this place, and is of this type, a set or a truth value, may begin with x by each naming that agrees, with what is held before and after
 abbrev pub BeginsAt : Held → Held → ℕ → Kind → CodedValue → Type 0
-BeginsAt d e place kind x = (i : Instance) → IsCellOf (program_at d) d.frame d.view i place → kind_in (program_at d) i ≡ kind → is_ordered kind ≡ true → ByEachNaming (program_at d) (λ names. BeginsWith (program_at d) names e.view i x)
+BeginsAt d e place kind x = (i : Instance) → IsCellOf (program_at d) d.frame d.view i place → kind_in (program_at d) i ≡ kind → is_ordered kind ≡ true → ByEachAgreeing (program_at d) e.view.made (λ names. BeginsWith (program_at d) names e.view i x)
 
 -- what the equation of the member of this number comes to, which wasn't sealed when it was met
 pub record ComesAt (d : Held) (l : Local) (number : ℕ) (turn : Turn) : Type 0 where
@@ -73,9 +76,9 @@ pub record ComesAt (d : Held) (l : Local) (number : ℕ) (turn : Turn) : Type 0 
   pub placed : IsSome entry.1.slot
   pub comes : ComesHere d l entry.0 turn
 
--- the member's equation holds by each naming, unless it was sealed when it was met
+-- the member's equation holds by each naming that agrees, unless it was sealed when it was met
 abbrev pub IsConfirmed : Program → View → Members → CodedInstance × Member → Type 0
-IsConfirmed p v es e = IsSome e.1.slot → ByEachNaming p (λ names. IsCurrent p names v es (instance_by p names e.0))
+IsConfirmed p v es e = IsSome e.1.slot → ByEachAgreeing p v.made (λ names. IsCurrent p names v es (instance_by p names e.0))
 
 abbrev pub AreConfirmed : Program → View → Members → Type 0
 AreConfirmed p v es = (e : CodedInstance × Member) → Has es e → IsConfirmed p v es e
@@ -86,15 +89,15 @@ pub record Stays (p : Program) (v : View) (old new : Local) (number : ℕ) : Typ
   pub due : new.worklist.due ≡ old.worklist.due
   pub confirmed : (e : CodedInstance × Member) → slice_get new.members.entries number ≡ Some e → IsConfirmed p v new.members.entries e
 
--- the members are members still, with their values, by each naming
-abbrev pub StillByEach : Program → Members → Members → Type 0
-StillByEach p es fs = ByEachNaming p (λ names. StillMembers p names es fs)
+-- the members are members still, with their values, by each naming that agrees with these makers
+abbrev pub StillByEach : Program → List CodedInstance → Members → Members → Type 0
+StillByEach p ms es fs = ByEachAgreeing p ms (λ names. StillMembers p names es fs)
 
 -- what making a circular instance a member says, with what is held before and after
 pub record Admits (d e : Held) (old new : Local) (result : Result Unit CircFault) : Type 0 where
   pub goes : GoesOnWith d e old new
   pub grown : OnOk result (left new.members.entries < left old.members.entries)
-  pub still : OnOk result (StillByEach (program_at d) old.members.entries new.members.entries)
+  pub still : OnOk result (StillByEach (program_at d) e.view.made old.members.entries new.members.entries)
   pub some : OnOk result (0 < length new.members.entries)
   pub fault : IfErr result (AnswersFaultAt d e old.start)
 
@@ -111,7 +114,7 @@ pub record Visits (d e : Held) (old new : Local) (number : ℕ) (result : Result
 
 -- None where a member was added, under whose value the evaluation may go on
 abbrev pub AnswersStep : Program → Frame → View → Local → Local → ℕ → Result (Option Visited) CircFault → Type 0
-AnswersStep p f v old new number (Ok None) = (left new.members.entries < left old.members.entries) × StillByEach p old.members.entries new.members.entries
+AnswersStep p f v old new number (Ok None) = (left new.members.entries < left old.members.entries) × StillByEach p v.made old.members.entries new.members.entries
 AnswersStep p f v old new number (Ok (Some (Need n))) = IsMissingByEach p v new n × (new.members.entries ≡ old.members.entries)
 AnswersStep p f v old new number (Ok (Some Changed)) = left new.members.entries < left old.members.entries
 AnswersStep p f v old new number (Ok (Some Same)) = Stays p v old new number

@@ -1,6 +1,6 @@
 // Claiming the cell of an instance, and whether it is new.
 ghost use Rattle.std.specs.Prelude.{IfOk, OnErr};
-ghost use Rattle.memo_cells.specs.Working.{ClaimsKeysAt, GoesOn, IsCellAt, IsCodedAt, IsInstanceAt, IsOwn, LacksCellAt, ReadsOn};
+ghost use Rattle.memo_cells.specs.Working.{ClaimsKeysAt, GoesOn, IsCellAt, IsCodedAt, IsInstanceAt, IsKnownAt, IsOwn, LacksCellAt, ReadsOn};
 
 use equation_law::Instance;
 use memo_cells::{CellsFull, Key, Slot, Work, claim_instance};
@@ -29,6 +29,7 @@ pub(crate) fn open_cell<W: Work>(work: &mut W, i: Instance) -> Result<Opened, Ce
     requires own { IsOwn (W.held work.old) }
     requires instance { IsInstanceAt (W.held work.old) i }
     requires coded { IsCodedAt (W.held work.old) i }
+    requires known { IsKnownAt (W.held work.old) i }
     ensures on { GoesOn (W.held work.old) (W.held work.new) }
     ensures slot { IfOk result (λ o. IsCellAt (W.held work.old) (W.held work.new) i o.slot.0) }
     ensures full { OnErr result (LacksCellAt (W.held work.old) (W.held work.new) i) }

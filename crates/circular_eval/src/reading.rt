@@ -3,7 +3,7 @@ ghost use Rattle.std.specs.Prelude.{◌≡◌, IfOk, None};
 ghost use Rattle.equation_law.specs.Equations.{collection_of};
 ghost use Rattle.equation_law.specs.Codes.{IsCoded, instance_of};
 ghost use Rattle.equation_law.specs.Systems.{program_of};
-ghost use Rattle.memo_cells.specs.Working.{IsForSystem, IsOwn, ReadsOn};
+ghost use Rattle.memo_cells.specs.Working.{IsForSystem, IsKnownAt, IsOwn, ReadsOn};
 ghost use Rattle.circular_eval.specs.Local.{AreReadable};
 ghost use Rattle.circular_eval.specs.Looking.{AreSavedHere, ComesHere};
 
@@ -69,7 +69,7 @@ impl<W: Work> Reader for LocalReader<'_, W> {
     }
 
     fn made_order(&mut self, a: NodeRef, b: NodeRef) -> Ordering {
-        a.0.cmp(&b.0)
+        self.work.made_order(a, b)
     }
 }
 
@@ -92,8 +92,9 @@ pub(crate) fn evaluate<'a, W: Work>(
     requires own { IsOwn (W.held work.old) }
     requires same { IsForSystem (W.held work.old) system.now }
     requires coded { IsCoded (program_of system.now) i.now }
+    requires known { IsKnownAt (W.held work.old) i.now }
     requires single { collection_of (program_of system.now) (instance_of (program_of system.now) i.now) ≡ None }
-    requires kept { AreReadable (program_of system.now) local.now.members.entries }
+    requires kept { AreReadable (program_of system.now) (W.held work.old).view.made local.now.members.entries }
     requires saved { AreSavedHere system.now (W.held work.old) local.now saved.old }
     ensures on { ReadsOn (W.held work.old) (W.held work.new) }
     ensures came { IfOk result (λ came. ComesHere (W.held work.new) local.now i.now came.turn) }

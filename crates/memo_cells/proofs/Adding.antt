@@ -6,6 +6,7 @@ use Rattle.std.specs.Int.{bit_at}
 use Rattle.std.specs.Int.Bits.{bit_or}
 use Rattle.std.proofs.lemmas.Nat.Bits.{bit_at-lt, bit_at-pow_other, bit_at-zero, bit_at_lowest, bit_at_or}
 use Rattle.solutions.proofs.Lower.{lower_below}
+use Rattle.equation_law.specs.declared.coding.Instance.{Instance as CodedInstance}
 use Rattle.equation_law.specs.Equations.{equations_of, kind_in}
 use Rattle.equation_law.specs.Loops.{fits_in, join_in, order_in}
 use Rattle.equation_law.specs.Names.{Instance}
@@ -25,7 +26,7 @@ use Rattle.memo_cells.specs.Views.{IsAtLeast, knows_all}
 use Rattle.memo_cells.proofs.Alone.{coded_now, kept_safe, kept_words, key_there, read_at, words_after}
 use Rattle.memo_cells.proofs.Facts.{bits_seen, inside, least, same, value_now, value_own}
 use Rattle.memo_cells.proofs.Lifting.{may_add_later, may_raise_truth_later}
-use Rattle.memo_cells.proofs.Meaning.{one_there, settled_shown, shown_at_most, true_code}
+use Rattle.memo_cells.proofs.Meaning.{by_words, one_there, settled_shown, shown_at_most, true_code}
 use Rattle.memo_cells.proofs.More.{at_least_itself}
 use Rattle.memo_cells.proofs.Naming.{stands_later, stands_once, stands_plain, word_later, word_set}
 use Rattle.memo_cells.proofs.Raising.{Higher, higher}
@@ -41,12 +42,12 @@ or_right_bit a b n e = let both = bit_at_or a b n in let low = bit_at-lt a n in 
 pub or_new_bit : (a b n : ℕ) → bit_at (bit_or a b) n ≡ 1 → bit_at a n ≢ 1 → bit_at b n ≡ 1
 or_new_bit a b n e out = let both = bit_at_or a b n in let low = bit_at-lt a n in omega (arith, both, low, e, out)
 
-module _ (f : Frame) (ts ks vs : List ℕ) (lk : length ks ≡ f.cells) (lv : length vs ≡ f.cells) (o : AreWords f ts ks vs) (place : ℕ) (lt : place < f.cells) where
+module _ (f : Frame) (ms : List CodedInstance) (ts ks vs : List ℕ) (lk : length ks ≡ f.cells) (lv : length vs ≡ f.cells) (o : AreWords f ms ts ks vs) (place : ℕ) (lt : place < f.cells) where
   abbrev p : Program
   p = program_of f.system.value
 
   abbrev v : View
-  v = knows_all f ts ks vs
+  v = knows_all f ms ts ks vs
 
   -- another word at this place
   module _ (word : ℕ) where
@@ -62,10 +63,10 @@ module _ (f : Frame) (ts ks vs : List ℕ) (lk : length ks ≡ f.cells) (lv : le
   -- bits of a word of a set
   module _ (bits word : ℕ) (may : MayAdd p v place bits) (is_word : word ≡ bit_or (get_or vs place 0) bits) where
     grown : Higher p o.values may.of may.value
-    grown = higher p (are_rising p) (are_joins p) v o.values o.lower (λ j c. shown_at_most f ts ks vs lk lv o j (kind_in p j) refl c) (settled_shown f ts ks vs lk lv o) may.of may.value may.may
+    grown = higher p (are_rising p) (are_joins p) v o.values o.lower (λ j c. shown_at_most f ms ts ks vs lk lv o j (kind_in p j) refl c) (settled_shown f ms ts ks vs lk lv o) (by_words f ms ts ks vs lk lv o) may.of may.value may.may
 
     key : (may.key ≢ 0) × (place < length ks) × (get_or ks place 0 ≡ may.key)
-    key = key_there f ts ks vs v refl place may.key may.here
+    key = key_there f ms ts ks vs v refl place may.key may.here
 
     at_key : (q : ℕ) → q ≡ place → get_or ks q 0 ≡ may.key
     at_key q e = ap (λ y. get_or ks y 0) e ∙ key.2
@@ -76,13 +77,13 @@ module _ (f : Frame) (ts ks vs : List ℕ) (lk : length ks ≡ f.cells) (lv : le
     old_bit : (n : ℕ) → bit_at (get_or vs place 0) n ≡ 1 → bit_at word n ≡ 1
     old_bit n e = ap (λ (y : ℕ). bit_at y n) is_word ∙ or_left_bit (get_or vs place 0) bits n e
 
-    pub add_more : IsAtLeast v (knows_all f ts ks (put word))
-    add_more = kept_words f ts ks vs v refl ts (put word) (length-set vs place word)
+    pub add_more : IsAtLeast v (knows_all f ms ts ks (put word))
+    add_more = kept_words f ms ts ks vs v refl ts (put word) (length-set vs place word)
         (λ q plain high. dite (ℕ_discrete q place) (λ e. absurd (not_both plain (is_set q e))) (λ ne. put_same word q ne))
         (λ q n low one. dite (ℕ_discrete q place)
         (λ e. ap (λ (y : ℕ). bit_at (get_or (put word) y 0) n) e ∙ ap (λ (y : ℕ). bit_at y n) (put_here word) ∙ old_bit n (ap (λ (y : ℕ). bit_at (get_or vs y 0) n) (sym e) ∙ one)) (λ ne. ap (λ (y : ℕ). bit_at y n) (put_same word q ne) ∙ one))
 
-    new_bit : (n : ℕ) → n < 64 → bit_at word n ≡ 1 → (bit_at (get_or vs place 0) n ≡ 1) ⊎ IsElement p (knows_all f ts ks (put word)) grown.values may.key n
+    new_bit : (n : ℕ) → n < 64 → bit_at word n ≡ 1 → (bit_at (get_or vs place 0) n ≡ 1) ⊎ IsElement p (knows_all f ms ts ks (put word)) grown.values may.key n
     new_bit n low e = dite (ℕ_discrete (bit_at (get_or vs place 0) n) 1) inl
         (λ out.
         let one : bit_at bits n ≡ 1 = or_new_bit (get_or vs place 0) bits n (ap (λ (y : ℕ). bit_at y n) (sym is_word) ∙ e) out in
@@ -91,21 +92,23 @@ module _ (f : Frame) (ts ks vs : List ℕ) (lk : length ks ≡ f.cells) (lv : le
         (record {
           of = may.of;
           word = may.word;
-          key = word_later v (knows_all f ts ks (put word)) add_more p may.key may.of may.word may.is;
-          part = ⊎_elim (λ a. inl (a.0, has_code_more p (kind_in p may.of) may.value (grown.values may.of) (64 * may.word + n) (grown.reaches a.0) in_value)) (λ a. inr (a.0, (may.value, a.1, in_value))) may.may;
+          key = word_later v (knows_all f ms ts ks (put word)) add_more p may.key may.of may.word may.is;
+          part = ⊎_elim (λ a. inl (a.0, has_code_more p ms (kind_in p may.of) may.value (grown.values may.of) (64 * may.word + n) (grown.reaches a.0) in_value)) (λ a. inr (a.0, (may.value, a.1, in_value))) may.may;
           code = (may.elements n low one).0;
         }))
 
-    pub add_words : AreWords f ts ks (put word)
+    pub add_words : AreWords f ms ts ks (put word)
     add_words = record {
       bare = o.bare;
+      nothing = o.nothing;
+      trees = o.trees;
       values = grown.values;
       lower = grown.lower;
-      ordered = words_after f ts ks vs v refl p lk lv o.values o.ordered grown.values ts (put word) add_more (kept_safe f ts ks vs v refl p ks (put word) add_more) grown.up
+      ordered = words_after f ms ts ks vs v refl p lk lv o.values o.ordered grown.values ts (put word) add_more (kept_safe f ms ts ks vs v refl p ks (put word) add_more) grown.up
           (λ q lq nz. dite (ℕ_discrete q place) (λ e z. key.0 (sym (at_key q e) ∙ z)) (λ ne. o.ordered.keyed q lq (λ z. nz (put_same word q ne ∙ z))))
           (λ q lq plain nz. dite (ℕ_discrete q place) (λ e. absurd (not_both plain (is_set q e))) (λ ne. inl (put_same word q ne)))
           (λ q n lq st low e. dite (ℕ_discrete q place)
-          (λ here. ⊎_elim (λ h. inl (ap (λ (y : ℕ). bit_at (get_or vs y 0) n) here ∙ h)) (λ h. inr (subst (λ (y : ℕ). IsElement p (knows_all f ts ks (put word)) grown.values y n) (sym (at_key q here)) h))
+          (λ here. ⊎_elim (λ h. inl (ap (λ (y : ℕ). bit_at (get_or vs y 0) n) here ∙ h)) (λ h. inr (subst (λ (y : ℕ). IsElement p (knows_all f ms ts ks (put word)) grown.values y n) (sym (at_key q here)) h))
           (new_bit n low (ap (λ (y : ℕ). bit_at y n) (sym (put_here word)) ∙ ap (λ (y : ℕ). bit_at (get_or (put word) y 0) n) (sym here) ∙ e)))
           (λ ne. inl (ap (λ (y : ℕ). bit_at y n) (sym (put_same word q ne)) ∙ e)));
     }
@@ -113,13 +116,13 @@ module _ (f : Frame) (ts ks vs : List ℕ) (lk : length ks ≡ f.cells) (lv : le
   -- a circular instance that becomes true
   module _ (may : MayRaiseTruth p v place) where
     grown_true : Higher p o.values may.of may.value
-    grown_true = higher p (are_rising p) (are_joins p) v o.values o.lower (λ j c. shown_at_most f ts ks vs lk lv o j (kind_in p j) refl c) (settled_shown f ts ks vs lk lv o) may.of may.value (inl (may.is_circular, may.comes))
+    grown_true = higher p (are_rising p) (are_joins p) v o.values o.lower (λ j c. shown_at_most f ms ts ks vs lk lv o j (kind_in p j) refl c) (settled_shown f ms ts ks vs lk lv o) (by_words f ms ts ks vs lk lv o) may.of may.value (inl (may.is_circular, may.comes))
 
     is_true : truth (grown_true.values may.of) ≡ true
     is_true = (grown_true.reaches may.is_circular).in_truth may.is_true
 
     true_key : (may.key ≢ 0) × (place < length ks) × (get_or ks place 0 ≡ may.key)
-    true_key = key_there f ts ks vs v refl place may.key may.here
+    true_key = key_there f ms ts ks vs v refl place may.key may.here
 
     at_true_key : (q : ℕ) → q ≡ place → get_or ks q 0 ≡ may.key
     at_true_key q e = ap (λ y. get_or ks y 0) e ∙ true_key.2
@@ -132,23 +135,25 @@ module _ (f : Frame) (ts ks vs : List ℕ) (lk : length ks ≡ f.cells) (lv : le
       at_free : (q n : ℕ) → q ≡ place → bit_at (get_or vs q 0) n ≡ 0
       at_free q n e = ap (λ (y : ℕ). bit_at (get_or vs y 0) n) e ∙ ap (λ (y : ℕ). bit_at y n) free ∙ bit_at-zero n
 
-      pub true_more : IsAtLeast v (knows_all f ts ks (put 1))
-      true_more = kept_words f ts ks vs v refl ts (put 1) (length-set vs place 1)
+      pub true_more : IsAtLeast v (knows_all f ms ts ks (put 1))
+      true_more = kept_words f ms ts ks vs v refl ts (put 1) (length-set vs place 1)
           (λ q plain high. put_same 1 q (λ e. let z : get_or vs q 0 ≡ 0 = ap (λ y. get_or vs y 0) e ∙ free in absurd (omega (arith, z, high))))
           (λ q n low one. ap (λ (y : ℕ). bit_at y n) (put_same 1 q (λ e. let z = at_free q n e in absurd (omega (arith, z, one)))) ∙ one)
 
-      pub true_words : AreWords f ts ks (put 1)
+      pub true_words : AreWords f ms ts ks (put 1)
       true_words = record {
         bare = o.bare;
+        nothing = o.nothing;
+        trees = o.trees;
         values = grown_true.values;
         lower = grown_true.lower;
-        ordered = words_after f ts ks vs v refl p lk lv o.values o.ordered grown_true.values ts (put 1) true_more (kept_safe f ts ks vs v refl p ks (put 1) true_more) grown_true.up
+        ordered = words_after f ms ts ks vs v refl p lk lv o.values o.ordered grown_true.values ts (put 1) true_more (kept_safe f ms ts ks vs v refl p ks (put 1) true_more) grown_true.up
             (λ q lq nz. dite (ℕ_discrete q place) (λ e z. true_key.0 (sym (at_true_key q e) ∙ z)) (λ ne. o.ordered.keyed q lq (λ z. nz (put_same 1 q ne ∙ z))))
             (λ q lq plain nz. dite (ℕ_discrete q place)
             (λ e.
-            let raised : IsRaised p (knows_all f ts ks (put 1)) grown_true.values may.key
-            = record { of = may.of; stands = stands_later v (knows_all f ts ks (put 1)) true_more p may.key may.of may.stands; is_circular = may.is_circular; kind = may.kind; is_true = is_true } in
-            inr (inr (ap (λ (y : ℕ). get_or (put 1) y 0) e ∙ put_here 1, subst (λ (y : ℕ). IsRaised p (knows_all f ts ks (put 1)) grown_true.values y) (sym (at_true_key q e)) raised))
+            let raised : IsRaised p (knows_all f ms ts ks (put 1)) grown_true.values may.key
+            = record { of = may.of; stands = stands_later v (knows_all f ms ts ks (put 1)) true_more p may.key may.of may.stands; is_circular = may.is_circular; kind = may.kind; is_true = is_true } in
+            inr (inr (ap (λ (y : ℕ). get_or (put 1) y 0) e ∙ put_here 1, subst (λ (y : ℕ). IsRaised p (knows_all f ms ts ks (put 1)) grown_true.values y) (sym (at_true_key q e)) raised))
             )
             (λ ne. inl (put_same 1 q ne)))
             (λ q n lq st low e. dite (ℕ_discrete q place) (λ here. absurd (not_both is_plain (ap is_set_word (sym (at_true_key q here)) ∙ st))) (λ ne. inl (ap (λ (y : ℕ). bit_at y n) (sym (put_same 1 q ne)) ∙ e)));
@@ -160,34 +165,34 @@ module _ (f : Frame) (ts ks vs : List ℕ) (lk : length ks ≡ f.cells) (lv : le
         let low = bit_at_lowest (get_or vs place 0) in
         ⊎_elim
         (λ x.
-        let of : x.2.settled.of ≡ may.of = stands_once v (one_there f ts ks vs lk lv o) p may.key x.2.settled.of may.of x.2.settled.stands may.stands in
+        let of : x.2.settled.of ≡ may.of = stands_once v (one_there f ms ts ks vs lk lv o) p (by_words f ms ts ks vs lk lv o) may.key x.2.settled.of may.of x.2.settled.stands may.stands in
         let circular = ap (equations_of p).circular of ∙ may.is_circular in
         let least : IsAtMost (grown_true.values x.2.settled.of) x.2.settled.code.value
         = lower_below (equations_of p) (order_in p) (fits_in p) (join_in p) (are_rising p) (are_joins p) grown_true.values grown_true.lower x.2.settled.of x.2.settled.code.value circular x.2.settled.code.has in
         let yes = least.in_truth (subst (λ (j : Instance). truth (grown_true.values j) ≡ true) (sym of) is_true) in
-        let one : x.0 ≡ 1 = true_code p x.2.settled.of x.0 x.2.settled.code (ap (kind_in p) of ∙ may.kind) yes in
+        let one : x.0 ≡ 1 = true_code p ms (by_words f ms ts ks vs lk lv o) x.2.settled.of x.0 x.2.settled.code (ap (kind_in p) of ∙ may.kind) yes in
         omega (arith, low, one, x.1)
         )
         (λ x. omega (arith, low, x.0))
-        (coded_now f ts ks vs v refl p lk lv o.values o.ordered place (get_or vs place 0) may.key (omega (arith, lv, lt)) (read_at vs place (get_or vs place 0) (omega (arith, lv, lt))) nz may.here is_plain)
+        (coded_now f ms ts ks vs v refl p lk lv o.values o.ordered place (get_or vs place 0) may.key (omega (arith, lv, lt)) (read_at vs place (get_or vs place 0) (omega (arith, lv, lt))) nz may.here is_plain)
 
 -- one bit of 1
 pub bit_of_one : (n : ℕ) → bit_at 1 n ≡ 1 → n ≡ 0
 bit_of_one n e = dite (ℕ_discrete n 0) (λ z. z) (λ nz. let none = bit_at-pow_other 0 n nz in absurd (omega (arith, none, e)))
 
 -- as a pass sees it whose words these are
-module _ (f : Frame) (ks vs : List ℕ) (lk : length ks ≡ f.cells) (lv : length vs ≡ f.cells) (o : AreWords f [] ks vs) (v : View) (told : IsTold f ks vs v) (g : Frame) (own : IsPassOf g v) (place : ℕ) (lt : place < g.cells) where
+module _ (f : Frame) (ms : List CodedInstance) (ks vs : List ℕ) (lk : length ks ≡ f.cells) (lv : length vs ≡ f.cells) (o : AreWords f ms [] ks vs) (v : View) (told : IsTold f ms ks vs v) (g : Frame) (own : IsPassOf g v) (place : ℕ) (lt : place < g.cells) where
   abbrev same_frame : f ≡ g
-  same_frame = same f ks vs lk lv o v told g own place lt
+  same_frame = same f ms ks vs lk lv o v told g own place lt
 
   there : place < f.cells
-  there = inside f ks vs lk lv o v told g own place lt
+  there = inside f ms ks vs lk lv o v told g own place lt
 
   abbrev all : View
-  all = knows_all f [] ks vs
+  all = knows_all f ms [] ks vs
 
   more_known : IsAtLeast v all
-  more_known = least f ks vs lk lv o v told g own place lt
+  more_known = least f ms ks vs lk lv o v told g own place lt
 
   found_there : (found : ℕ) → found ≡ get_or vs place found → found ≡ get_or vs place 0
   found_there found e = e ∙ sym (read_at vs place found (omega (arith, there, lv)))
@@ -202,18 +207,18 @@ module _ (f : Frame) (ks vs : List ℕ) (lk : length ks ≡ f.cells) (lv : lengt
     abbrev after_add : View
     after_add = after v (LeftValue place found word)
 
-    pub added_words : AreWords f [] ks (set vs place word)
-    added_words = add_words f [] ks vs lk lv o place there bits word its at_word
+    pub added_words : AreWords f ms [] ks (set vs place word)
+    added_words = add_words f ms [] ks vs lk lv o place there bits word its at_word
 
-    pub added_now : IsTold f ks (set vs place word) after_add
-    added_now = value_now f ks vs lk lv o v told g own place lt found word (set vs place word) (length-set vs place word ∙ lv) added_words (add_more f [] ks vs lk lv o place there bits word its at_word) (put_here f [] ks vs lk lv o place there word)
+    pub added_now : IsTold f ms ks (set vs place word) after_add
+    added_now = value_now f ms ks vs lk lv o v told g own place lt found word (set vs place word) (length-set vs place word ∙ lv) added_words (add_more f ms [] ks vs lk lv o place there bits word its at_word) (put_here f ms [] ks vs lk lv o place there word)
 
     pub added_own : IsPassOf g after_add
-    added_own = value_own f ks vs lk lv o v told g own place lt found word (set vs place word) (length-set vs place word ∙ lv) added_words (add_more f [] ks vs lk lv o place there bits word its at_word) (put_here f [] ks vs lk lv o place there word)
+    added_own = value_own f ms ks vs lk lv o v told g own place lt found word (set vs place word) (length-set vs place word ∙ lv) added_words (add_more f ms [] ks vs lk lv o place there bits word its at_word) (put_here f ms [] ks vs lk lv o place there word)
 
     pub added_seen : BitsAdded (program_of g.system.value) v after_add place bits word
     added_seen = record {
-      seen = bits_seen f ks vs lk lv o v told g own place lt found word (set vs place word) (length-set vs place word ∙ lv) added_words (add_more f [] ks vs lk lv o place there bits word its at_word) (put_here f [] ks vs lk lv o place there word);
+      seen = bits_seen f ms ks vs lk lv o v told g own place lt found word (set vs place word) (length-set vs place word ∙ lv) added_words (add_more f ms [] ks vs lk lv o place there bits word its at_word) (put_here f ms [] ks vs lk lv o place there word);
       added = λ n b. ap (λ (y : ℕ). bit_at y n) is_word ∙ or_right_bit found bits n b;
     }
 
@@ -228,27 +233,27 @@ module _ (f : Frame) (ks vs : List ℕ) (lk : length ks ≡ f.cells) (lv : lengt
       unset_now : get_or vs place 0 ≡ 0
       unset_now = sym (found_there found e) ∙ z
 
-      pub raised_words : AreWords f [] ks (set vs place left)
-      raised_words = subst (λ (y : ℕ). AreWords f [] ks (set vs place y)) (sym is) (true_words f [] ks vs lk lv o place there true_its unset_now)
+      pub raised_words : AreWords f ms [] ks (set vs place left)
+      raised_words = subst (λ (y : ℕ). AreWords f ms [] ks (set vs place y)) (sym is) (true_words f ms [] ks vs lk lv o place there true_its unset_now)
 
-      raised_more : IsAtLeast all (knows_all f [] ks (set vs place left))
-      raised_more = subst (λ (y : ℕ). IsAtLeast all (knows_all f [] ks (set vs place y))) (sym is) (true_more f [] ks vs lk lv o place there true_its unset_now)
+      raised_more : IsAtLeast all (knows_all f ms [] ks (set vs place left))
+      raised_more = subst (λ (y : ℕ). IsAtLeast all (knows_all f ms [] ks (set vs place y))) (sym is) (true_more f ms [] ks vs lk lv o place there true_its unset_now)
 
-      pub raised_now : IsTold f ks (set vs place left) after_true
-      raised_now = value_now f ks vs lk lv o v told g own place lt found left (set vs place left) (length-set vs place left ∙ lv) raised_words raised_more (put_here f [] ks vs lk lv o place there left)
+      pub raised_now : IsTold f ms ks (set vs place left) after_true
+      raised_now = value_now f ms ks vs lk lv o v told g own place lt found left (set vs place left) (length-set vs place left ∙ lv) raised_words raised_more (put_here f ms [] ks vs lk lv o place there left)
 
       pub raised_own : IsPassOf g after_true
-      raised_own = value_own f ks vs lk lv o v told g own place lt found left (set vs place left) (length-set vs place left ∙ lv) raised_words raised_more (put_here f [] ks vs lk lv o place there left)
+      raised_own = value_own f ms ks vs lk lv o v told g own place lt found left (set vs place left) (length-set vs place left ∙ lv) raised_words raised_more (put_here f ms [] ks vs lk lv o place there left)
 
       pub raised_seen : BitsAdded (program_of g.system.value) v after_true place 1 left
       raised_seen = record {
-        seen = bits_seen f ks vs lk lv o v told g own place lt found left (set vs place left) (length-set vs place left ∙ lv) raised_words raised_more (put_here f [] ks vs lk lv o place there left);
+        seen = bits_seen f ms ks vs lk lv o v told g own place lt found left (set vs place left) (length-set vs place left ∙ lv) raised_words raised_more (put_here f ms [] ks vs lk lv o place there left);
         added = λ n b. ap (λ (y : ℕ). bit_at y n) is ∙ b;
       }
 
     module _ (nz : found ≢ 0) (is : left ≡ found) where
       pub raised_already : BitsAdded (program_of g.system.value) v after_true place 1 left
       raised_already = record {
-        seen = bits_seen f ks vs lk lv o v told g own place lt found left vs lv o (at_least_itself all) (sym (found_there found e) ∙ sym is);
-        added = λ n b. ap (λ (y : ℕ × ℕ). bit_at y.0 y.1) (λ i. ((is ∙ found_there found e) i, bit_of_one n b i)) ∙ true_already f [] ks vs lk lv o place there true_its (λ y. nz (found_there found e ∙ y));
+        seen = bits_seen f ms ks vs lk lv o v told g own place lt found left vs lv o (at_least_itself all) (sym (found_there found e) ∙ sym is);
+        added = λ n b. ap (λ (y : ℕ × ℕ). bit_at y.0 y.1) (λ i. ((is ∙ found_there found e) i, bit_of_one n b i)) ∙ true_already f ms [] ks vs lk lv o place there true_its (λ y. nz (found_there found e ∙ y));
       }

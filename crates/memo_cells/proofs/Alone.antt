@@ -4,12 +4,14 @@ use Rattle.std.specs.Int.{bit_at}
 use Rattle.std.proofs.lemmas.Nat.Bits.{bit_at-zero}
 use mathlib.Core.Logic.{dite}
 use native.Mathlib.Decide.{ℕ_discrete}
+use Rattle.equation_law.specs.declared.coding.Instance.{Instance as CodedInstance}
 use Rattle.equation_law.specs.Equations.{equations_of}
 use Rattle.equation_law.specs.Names.{Instance}
 use Rattle.equation_law.specs.Program.{Program}
 use Rattle.equation_law.specs.Values.{Value}
 use Rattle.equation_law.specs.Orders.{IsAtMost}
 use Rattle.equation_law.proofs.Orders.{at_most_itself}
+use Rattle.made_trees.proofs.Following.{follow_itself}
 use Rattle.memo_cells.specs.declared.view.View.{View}
 use Rattle.memo_cells.specs.declared.view.Frame.{Frame}
 use Rattle.memo_cells.specs.Naming.{IsFormed}
@@ -17,6 +19,7 @@ use Rattle.memo_cells.specs.Standing.{IsElement, IsFinal, IsRaised, IsSafe, Know
 use Rattle.memo_cells.specs.Keys.{is_set_word}
 use Rattle.memo_cells.specs.Views.{Has, IsAtLeast, IsPassed, IsPlain, knows_all, shown_bits, values_from, word_at}
 use Rattle.memo_cells.specs.Words.{AreOrdered, IsCoded}
+use Rattle.memo_cells.proofs.Agreeing.{IsOpen}
 use Rattle.memo_cells.proofs.Bits.{bits_kept, bits_more}
 use Rattle.memo_cells.proofs.Naming.{formed_later, knows_later, stands_once, stands_plain}
 use Rattle.memo_cells.proofs.Ordered.{ordered_claim, ordered_words, same_coded, stands_nowhere}
@@ -28,7 +31,7 @@ read_at [] p d lt = absurd (omega arith)
 read_at (x ∷ ks) zero d lt = refl
 read_at (x ∷ ks) (suc p) d lt = read_at ks p d (omega arith)
 
-module _ (f : Frame) (ts ks vs : List ℕ) (v : View) (is : knows_all f ts ks vs ≡ v) where
+module _ (f : Frame) (ms : List CodedInstance) (ts ks vs : List ℕ) (v : View) (is : knows_all f ms ts ks vs ≡ v) where
   pub own_frame : v.frame ≡ Some f
   own_frame = sym (ap (λ y. y.frame) is)
 
@@ -99,13 +102,13 @@ module _ (f : Frame) (ts ks vs : List ℕ) (v : View) (is : knows_all f ts ks vs
 
   -- where no settled word changes, and no bit is lost, nothing is unlearnt
   pub kept_words : (us ws : List ℕ) → length ws ≡ length vs → ((i : ℕ) → is_set_word (get_or ks i 0) ≡ false → 2 ^ 63 ≤ get_or vs i 0 → get_or ws i 0 ≡ get_or vs i 0)
-      → ((i c : ℕ) → c < shown_bits (get_or ks i 0) → bit_at (get_or vs i 0) c ≡ 1 → bit_at (get_or ws i 0) c ≡ 1) → IsAtLeast v (knows_all f us ks ws)
+      → ((i c : ℕ) → c < shown_bits (get_or ks i 0) → bit_at (get_or vs i 0) c ≡ 1 → bit_at (get_or ws i 0) c ≡ 1) → IsAtLeast v (knows_all f ms us ks ws)
   kept_words us ws long same more =
-      subst (λ u. IsAtLeast u (knows_all f us ks ws)) is (record { frame = refl; share = refl; keys = λ q j h. h; values = λ q j c h. values_kept ks vs ws q j c long same h; bits = λ q j b h. bits_kept ks vs ws q j b long more h; claims = λ q. le_refl _ })
+      subst (λ u. IsAtLeast u (knows_all f ms us ks ws)) is (record { frame = refl; share = refl; keys = λ q j h. h; values = λ q j c h. values_kept ks vs ws q j c long same h; bits = λ q j b h. bits_kept ks vs ws q j b long more h; claims = λ q. le_refl _; made = follow_itself ms })
 
   -- where no slot was sealed, what is safe goes on to be so
-  pub kept_safe : (p : Program) (js ws : List ℕ) → IsAtLeast v (knows_all f ts js ws) → StaysSafe p v (knows_all f ts js ws)
-  kept_safe p js ws more = safe_later p v (knows_all f ts js ws) more (λ s h. subst (λ (y : View). Has y.to_seal s) (sym is) h)
+  pub kept_safe : (p : Program) (js ws : List ℕ) → IsAtLeast v (knows_all f ms ts js ws) → StaysSafe p v (knows_all f ms ts js ws)
+  kept_safe p js ws more = safe_later p v (knows_all f ms ts js ws) more (λ s h. subst (λ (y : View). Has y.to_seal s) (sym is) h)
 
   -- the words that are settled are those of a lower assignment's program
   module _ (program : Program) (lk : length ks ≡ f.cells) (lv : length vs ≡ f.cells) (T : Instance → Value) (o : AreOrdered (IsFormed program v) (IsFinal program v T) (IsRaised program v T) (IsElement program v T) f.cells (word_at ks) (word_at vs)) where
@@ -113,9 +116,9 @@ module _ (f : Frame) (ts ks vs : List ℕ) (v : View) (is : knows_all f ts ks vs
     pub free_value : (p : ℕ) → p < f.cells → get_or ks p 0 ≡ 0 → get_or vs p 0 ≡ 0
     free_value p lt free = dite (ℕ_discrete (get_or vs p 0) 0) (λ z. z) (λ nz. absurd (o.keyed p lt nz free))
 
-    pub kept_after : (p k : ℕ) → p < f.cells → get_or ks p 0 ≡ 0 → IsAtLeast v (knows_all f ts (set ks p k) vs)
+    pub kept_after : (p k : ℕ) → p < f.cells → get_or ks p 0 ≡ 0 → IsAtLeast v (knows_all f ms ts (set ks p k) vs)
     kept_after p k lt free =
-        subst (λ y. IsAtLeast y (knows_all f ts (set ks p k) vs)) is
+        subst (λ y. IsAtLeast y (knows_all f ms ts (set ks p k) vs)) is
         (record {
           frame = refl;
           share = refl;
@@ -123,12 +126,13 @@ module _ (f : Frame) (ts ks vs : List ℕ) (v : View) (is : knows_all f ts ks vs
           values = λ q j c h. values_more ks vs p k q j c free (λ i l n. o.keyed i (omega (arith, l, lv)) n) h;
           bits = λ q j b h. bits_more ks vs p k q j b (free_value p lt free) h;
           claims = λ q. places_more ks 0 p k q free;
+          made = follow_itself ms;
         })
 
     -- a key is claimed at a free place behind others on its way
-    pub ordered_after : (p k : ℕ) → p < f.cells → get_or ks p 0 ≡ 0 → k ≢ 0 → IsFormed program v k → IsPassed f v k p → (let w = knows_all f ts (set ks p k) vs in AreOrdered (IsFormed program w) (IsFinal program w T) (IsRaised program w T) (IsElement program w T) f.cells (word_at (set ks p k)) (word_at vs))
+    pub ordered_after : (p k : ℕ) → p < f.cells → get_or ks p 0 ≡ 0 → k ≢ 0 → IsFormed program v k → IsPassed f v k p → (let w = knows_all f ms ts (set ks p k) vs in AreOrdered (IsFormed program w) (IsFinal program w T) (IsRaised program w T) (IsElement program w T) f.cells (word_at (set ks p k)) (word_at vs))
     ordered_after p k lt free nz good passed =
-        let w : View = knows_all f ts (set ks p k) vs in
+        let w : View = knows_all f ms ts (set ks p k) vs in
         let more : IsAtLeast v w = kept_after p k lt free in
         let stay = λ (j : Instance) (c : (equations_of program).circular j ≡ true). at_most_itself (T j) in
         ordered_claim f.cells (IsFormed program v) (IsFormed program w) (IsFinal program v T) (IsFinal program w T) (IsRaised program v T) (IsRaised program w T) (IsElement program v T) (IsElement program w T) (formed_later v w more program)
@@ -137,12 +141,12 @@ module _ (f : Frame) (ts ks vs : List ℕ) (v : View) (is : knows_all f ts ks vs
         (λ q way. let seen = passed q way in let word = key_there q seen.0 seen.1 in ((λ z. word.0 (sym word.2 ∙ z)), (λ z. seen.2 (sym word.2 ∙ z)))) (get_or-set_same ks p k 0 (omega (arith, lk, lt))) (λ q ne. get_or-set_other ks p q k 0 ne) (λ q. refl)
 
     -- value words change, and no key word does
-    pub words_after : (U : Instance → Value) (us ws : List ℕ) → IsAtLeast v (knows_all f us ks ws) → StaysSafe program v (knows_all f us ks ws) → ((j : Instance) → (equations_of program).circular j ≡ true → IsAtMost (T j) (U j)) → ((p : ℕ) → p < f.cells → get_or ws p 0 ≢ 0 → get_or ks p 0 ≢ 0)
-        → ((p : ℕ) → p < f.cells → is_set_word (get_or ks p 0) ≡ false → get_or ws p 0 ≢ 0 → (get_or ws p 0 ≡ get_or vs p 0) ⊎ IsCoded (IsFinal program (knows_all f us ks ws) U) (IsRaised program (knows_all f us ks ws) U) (get_or ks p 0) (get_or ws p 0))
-        → ((p b : ℕ) → p < f.cells → is_set_word (get_or ks p 0) ≡ true → b < 64 → bit_at (get_or ws p 0) b ≡ 1 → (bit_at (get_or vs p 0) b ≡ 1) ⊎ IsElement program (knows_all f us ks ws) U (get_or ks p 0) b)
-        → (let w = knows_all f us ks ws in AreOrdered (IsFormed program w) (IsFinal program w U) (IsRaised program w U) (IsElement program w U) f.cells (word_at ks) (word_at ws))
+    pub words_after : (U : Instance → Value) (us ws : List ℕ) → IsAtLeast v (knows_all f ms us ks ws) → StaysSafe program v (knows_all f ms us ks ws) → ((j : Instance) → (equations_of program).circular j ≡ true → IsAtMost (T j) (U j)) → ((p : ℕ) → p < f.cells → get_or ws p 0 ≢ 0 → get_or ks p 0 ≢ 0)
+        → ((p : ℕ) → p < f.cells → is_set_word (get_or ks p 0) ≡ false → get_or ws p 0 ≢ 0 → (get_or ws p 0 ≡ get_or vs p 0) ⊎ IsCoded (IsFinal program (knows_all f ms us ks ws) U) (IsRaised program (knows_all f ms us ks ws) U) (get_or ks p 0) (get_or ws p 0))
+        → ((p b : ℕ) → p < f.cells → is_set_word (get_or ks p 0) ≡ true → b < 64 → bit_at (get_or ws p 0) b ≡ 1 → (bit_at (get_or vs p 0) b ≡ 1) ⊎ IsElement program (knows_all f ms us ks ws) U (get_or ks p 0) b)
+        → (let w = knows_all f ms us ks ws in AreOrdered (IsFormed program w) (IsFinal program w U) (IsRaised program w U) (IsElement program w U) f.cells (word_at ks) (word_at ws))
     words_after U us ws more safe up key code bit =
-        let w : View = knows_all f us ks ws in
+        let w : View = knows_all f ms us ks ws in
         let final = final_later program v w more T U up safe in
         let raise = raised_later program v w more T U up in
         let part = element_later program v w more T U up in
@@ -160,16 +164,16 @@ module _ (f : Frame) (ts ks vs : List ℕ) (v : View) (is : knows_all f ts ks vs
       put_same : (q : ℕ) → q ≢ p → get_or put q 0 ≡ get_or vs q 0
       put_same q ne = get_or-set_other vs p q (c + 2 ^ 63) 0 ne
 
-      pub kept_value : IsAtLeast v (knows_all f ts ks put)
+      pub kept_value : IsAtLeast v (knows_all f ms ts ks put)
       kept_value = kept_words ts put (length-set vs p (c + 2 ^ 63)) (λ q plain high. put_same q (λ e. let z : get_or vs q 0 ≡ 0 = ap (λ y. get_or vs y 0) e ∙ free in absurd (omega (arith, z, high))))
           (λ q b low one. dite (ℕ_discrete q p) (λ e. let z : bit_at (get_or vs q 0) b ≡ 0 = ap (λ (y : ℕ). bit_at (get_or vs y 0) b) e ∙ ap (λ (y : ℕ). bit_at y b) free ∙ bit_at-zero b in absurd (omega (arith, z, one))) (λ ne. ap (λ (y : ℕ). bit_at y b) (put_same q ne) ∙ one))
 
       key : (may.key ≢ 0) × (p < length ks) × (get_or ks p 0 ≡ may.key)
       key = key_there p may.key may.here
 
-      pub valued_after : (let w = knows_all f ts ks put in AreOrdered (IsFormed program w) (IsFinal program w T) (IsRaised program w T) (IsElement program w T) f.cells (word_at ks) (word_at put))
+      pub valued_after : (let w = knows_all f ms ts ks put in AreOrdered (IsFormed program w) (IsFinal program w T) (IsRaised program w T) (IsElement program w T) f.cells (word_at ks) (word_at put))
       valued_after =
-          let w : View = knows_all f ts ks put in
+          let w : View = knows_all f ms ts ks put in
           words_after T ts put kept_value (kept_safe program ks put kept_value) (λ j e. at_most_itself (T j))
           (λ q lq nz. dite (ℕ_discrete q p) (λ e z. key.0 (sym key.2 ∙ ap (λ y. get_or ks y 0) (sym e) ∙ z)) (λ ne. o.keyed q lq (λ z. nz (put_same q ne ∙ z))))
           (λ q lq plain nz. dite (ℕ_discrete q p)
@@ -191,10 +195,10 @@ module _ (f : Frame) (ts ks vs : List ℕ) (v : View) (is : knows_all f ts ks vs
         subst (λ (y : ℕ × ℕ). IsCoded (IsFinal program v T) (IsRaised program v T) y.0 y.1) (λ i. (key.2 i, word i)) (o.coded p (omega (arith, lt, lv)) (ap is_set_word key.2 ∙ plain) (λ z. nz (sym word ∙ z)))
 
     -- that of an undeclared instance is 0 or settled
-    pub word_high : (p c r : ℕ) → p < length vs → r ≡ get_or vs p r → r ≢ 0 → MaySettle program v p c → 2 ^ 63 ≤ r
-    word_high p c r lt e nz may =
+    pub word_high : IsOpen program v.made → (p c r : ℕ) → p < length vs → r ≡ get_or vs p r → r ≢ 0 → MaySettle program v p c → 2 ^ 63 ≤ r
+    word_high by p c r lt e nz may =
         ⊎_elim (λ x. omega (arith, x.1))
-        (λ x. let same = stands_once v key_once program may.key x.1.of may.settled.of x.1.stands may.settled.stands in absurd (not_both may.undeclared (subst (λ (i : Instance). (equations_of program).circular i ≡ true) same x.1.is_circular)))
+        (λ x. let same = stands_once v key_once program by may.key x.1.of may.settled.of x.1.stands may.settled.stands in absurd (not_both may.undeclared (subst (λ (i : Instance). (equations_of program).circular i ≡ true) same x.1.is_circular)))
         (coded_now p r may.key lt e nz may.here (stands_plain program v may.key may.settled.of may.settled.stands))
 
     -- a word that isn't of a set has a mark and 32 bits

@@ -13,6 +13,7 @@ use Rattle.memo_cells.specs.Naming.{IsNamed, StandsFor}
 use Rattle.memo_cells.specs.Standing.{IsPassOf, Knows}
 use Rattle.memo_cells.specs.Views.{Has}
 use Rattle.memo_cells.proofs.Firsts.{behind_cell}
+use Rattle.memo_cells.proofs.Agreeing.{IsOpen, own_open}
 use Rattle.memo_cells.proofs.Naming.{stands_once}
 
 -- a key that is seen claimed at a place
@@ -84,7 +85,7 @@ module _ (p : Program) (f : Frame) (v : View) (same : p ≡ program_of f.system.
       let stands : StandsFor p v k it.0 = subst (λ (q : Program). StandsFor q v k it.0) (sym same) it.1 in
       elim (same_instance it.0 (Attribute a r xs)) as (λ b. same_instance it.0 (Attribute a r xs) ≡ b → StandsFor p v k (Attribute a r xs) ⊎ (¬ StandsFor p v k (Attribute a r xs))) [
         | true ↦ λ e. inl (subst (λ (j : Instance). StandsFor p v k j) (same_instance_is it.0 (Attribute a r xs) e) stands)
-        | false ↦ λ e. inr (λ other. (let one = stands_once v own.one_key p k it.0 (Attribute a r xs) stands other in let yes = subst (λ (j : Instance). same_instance it.0 j ≡ true) one (same_instance_self it.0) in cc))
+        | false ↦ λ e. inr (λ other. (let one = stands_once v own.one_key p (subst (λ (q : Program). IsOpen q v.made) (sym same) (own_open f v [] own)) k it.0 (Attribute a r xs) stands other in let yes = subst (λ (j : Instance). same_instance it.0 j ≡ true) one (same_instance_self it.0) in cc))
       ] refl)
       (λ none. inr (λ h. none (let b = behind_cell p v k (Attribute a r xs) h in (a, b.0, b.1, b.2, b.3))))
       (named_within v own.one_key 3 k)

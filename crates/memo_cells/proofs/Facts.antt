@@ -5,12 +5,16 @@ use mathlib.Core.Logic.{dite}
 use native.Mathlib.Decide.{ℕ_discrete}
 use Rattle.solutions.specs.Leading.{bottoms}
 use Rattle.equation_law.specs.Checked.{HasSourcesAlone}
+use Rattle.equation_law.specs.declared.coding.Instance.{Instance as CodedInstance}
 use Rattle.equation_law.specs.Equations.{equations_of, kind_in}
 use Rattle.equation_law.specs.Program.{Program}
 use Rattle.equation_law.specs.Systems.{program_of}
+use Rattle.equation_law.proofs.Bare.{trees_fit}
 use Rattle.equation_law.proofs.Orders.{at_most_itself}
 use Rattle.equation_law.proofs.Pooled.{texts_pooled}
 use Rattle.equation_law.proofs.Solution.{are_rising}
+use Rattle.equation_law.proofs.Tied.{never_makes}
+use Rattle.made_trees.specs.Makers.{AreTrees}
 use Rattle.memo_cells.specs.declared.view.Frame.{Frame}
 use Rattle.memo_cells.specs.declared.view.View.{View}
 use Rattle.attr_rules.specs.declared.kinds.Kind.{Kind}
@@ -23,15 +27,16 @@ use Rattle.memo_cells.specs.Keys.{is_set_word, start}
 use Rattle.memo_cells.specs.Learning.{after, bits_said, values_said}
 use Rattle.memo_cells.specs.Naming.{IsFormed, IsNamed, StandsFor}
 use Rattle.memo_cells.specs.Showing.{ShowsAtMost, ShowsCode}
-use Rattle.memo_cells.specs.Standing.{AreApproximations, AreWords, IsCodeOf, IsMissing, IsPassOf, IsSeatOf, IsTold, IsValueWord, IsWordOfValue, Knows, MaySettle}
+use Rattle.memo_cells.specs.Standing.{AreApproximations, AreWords, IsCodeOf, IsMissing, IsPassOf, IsSeatOf, IsTold, IsValueWord, IsWordOfValue, Knows, MaySettle, trees_of}
 use Rattle.memo_cells.specs.Steps.{BitsSeen, KeySeen, KeyTried, ValueSeen, ValueTried}
 use Rattle.memo_cells.specs.Views.{Has, IsAtLeast, IsFull, IsNowhere, IsPassed, IsPlain, first_view, key_word_at, knows_all}
 use Rattle.memo_cells.specs.Words.{Before}
+use Rattle.memo_cells.proofs.Agreeing.{trees_open}
 use Rattle.memo_cells.proofs.Alone.{free_now, kept_after, kept_value, known_stands, nowhere_now, ordered_after, read_at, unset_now, valued_after, word_high, word_small}
 use Rattle.memo_cells.proofs.Bits.{bits_has, has_bits, has_either, has_left}
 use Rattle.memo_cells.proofs.Learnt.{bits_said_has, claim_told, key_told, said_values, told_least, value_told, values_said_has, value_logged, with_key_here}
 use Rattle.memo_cells.proofs.Lifting.{may_settle_later}
-use Rattle.memo_cells.proofs.Meaning.{approximations, bit_keyed, final_at, one_there, set_bits, settled_shown}
+use Rattle.memo_cells.proofs.Meaning.{approximations, by_words, bit_keyed, final_at, one_there, set_bits, settled_shown}
 use Rattle.memo_cells.proofs.More.{at_least_itself, at_least_then, other_later}
 use Rattle.memo_cells.proofs.Naming.{formed_later, named_later, named_plain, stands_back, stands_later, stands_once, stands_plain, word_set}
 use Rattle.memo_cells.proofs.Places.{has_keys, has_values, keys_has, place_counted}
@@ -39,12 +44,12 @@ use Rattle.memo_cells.proofs.Showing.{approximations_before, missing_before, not
 use Rattle.memo_cells.proofs.ValueWords.{word_of_value, word_seen, word_unseen}
 
 -- the words of a program
-module _ (f : Frame) (ts ks vs : List ℕ) (lk : length ks ≡ f.cells) (lv : length vs ≡ f.cells) (o : AreWords f ts ks vs) where
+module _ (f : Frame) (ms : List CodedInstance) (ts ks vs : List ℕ) (lk : length ks ≡ f.cells) (lv : length vs ≡ f.cells) (o : AreWords f ms ts ks vs) where
   abbrev program : Program
   program = program_of f.system.value
 
   abbrev all : View
-  all = knows_all f ts ks vs
+  all = knows_all f ms ts ks vs
 
   -- a key stands at one place
   once_there : (s t k : ℕ) → Has all.keys (s, k) → Has all.keys (t, k) → s ≡ t
@@ -65,8 +70,8 @@ module _ (f : Frame) (ts ks vs : List ℕ) (lk : length ks ≡ f.cells) (lv : le
       ⊎_elim (λ x. (x.key.prefix, x.key.stands)) (λ x. absurd (not_both (named_plain all k a n cs is) (word_set program all k x.of x.word x.key))) formed
 
   -- the bits of a word of a set that is settled are the elements of its value there
-  value_word : (i : Instance) (w x : ℕ) → is_single (kind_in program i) ≡ false → Knows program all i → ((b : ℕ) → b < 64 → (bit_at x b ≡ 1) ↔ ShowsCode program all i (64 * w + b)) → IsWordOfValue program i w x
-  value_word i w x set known shown = let s = settled_shown f ts ks vs lk lv o i known in word_of_value program all (texts_pooled f.system.value) (approximations f ts ks vs lk lv o) i s.0 s.1 w x set s.2 shown
+  value_word : (i : Instance) (w x : ℕ) → is_single (kind_in program i) ≡ false → Knows program all i → ((b : ℕ) → b < 64 → (bit_at x b ≡ 1) ↔ ShowsCode program all i (64 * w + b)) → IsWordOfValue program ms i w x
+  value_word i w x set known shown = let s = settled_shown f ms ts ks vs lk lv o i known in word_of_value program all (texts_pooled f.system.value) (by_words f ms ts ks vs lk lv o) (approximations f ms ts ks vs lk lv o) i s.0 s.1 w x set s.2 shown
 
   word_there : (place x k : ℕ) → place < f.cells → get_or vs place 0 ≡ x → Has all.keys (place, k) → IsValueWord program all k x
   word_there place x k lt word there i w is set known =
@@ -74,7 +79,7 @@ module _ (f : Frame) (ts ks vs : List ℕ) (lk : length ks ≡ f.cells) (lv : le
       let here : t.1.0 ≡ place = omega (arith, t.1.2) in
       let key : get_or ks place 0 ≡ k = ap (λ y. get_or ks y 0) (sym here) ∙ t.1.3 in
       value_word i w x set known
-      (word_seen program all (one_there f ts ks vs lk lv o) once_there (bit_keyed f ts ks vs lk lv o) (texts_pooled f.system.value) k i w x place is there
+      (word_seen program all (one_there f ms ts ks vs lk lv o) once_there (bit_keyed f ms ts ks vs lk lv o) (texts_pooled f.system.value) (by_words f ms ts ks vs lk lv o) k i w x place is there
       (λ n few e. bits_has ks vs 0 place place k n (omega (arith, lt, lk)) (omega (arith, lt, lv)) key (set_bits k n (word_set program all k i w is) few) (ap (λ (y : ℕ). bit_at y n) word ∙ e) (omega arith))
       (λ n h.
       let r = has_bits ks vs 0 place k n h in
@@ -85,12 +90,12 @@ module _ (f : Frame) (ts ks vs : List ℕ) (lk : length ks ≡ f.cells) (lv : le
   pub word_missing : (k : ℕ) → IsNowhere all k → IsMissing program all k
   word_missing k nowhere = record {
     nowhere = nowhere;
-    word = λ i w is set known. value_word i w 0 set known (word_unseen program all (one_there f ts ks vs lk lv o) once_there (bit_keyed f ts ks vs lk lv o) (texts_pooled f.system.value) k i w is nowhere);
+    word = λ i w is set known. value_word i w 0 set known (word_unseen program all (one_there f ms ts ks vs lk lv o) once_there (bit_keyed f ms ts ks vs lk lv o) (texts_pooled f.system.value) (by_words f ms ts ks vs lk lv o) k i w is nowhere);
   }
 
   -- and that is so where other keys have all places
   word_full : (k : ℕ) → IsFull f all k → IsValueWord program all k 0
-  word_full k full = (word_missing k (λ q has. let at = full q (inside_there q k has) in at.2 (one_there f ts ks vs lk lv o q at.0 k at.1 has))).word
+  word_full k full = (word_missing k (λ q has. let at = full q (inside_there q k has) in at.2 (one_there f ms ts ks vs lk lv o q at.0 k at.1 has))).word
 
   -- the bits of the word at a place are known
   pub bits_of_words : (place x : ℕ) → place < f.cells → get_or vs place 0 ≡ x → BitsSeen program all all place x
@@ -103,7 +108,7 @@ module _ (f : Frame) (ts ks vs : List ℕ) (lk : length ks ≡ f.cells) (lv : le
         let t = has_bits ks vs 0 place k n h in
         let here : t.0 ≡ place = omega (arith, t.3) in
         ap (λ (y : ℕ). bit_at y n) (sym word ∙ ap (λ y. get_or vs y 0) (sym here)) ∙ t.6;
-    code = λ k c h. known_stands f ts ks vs all refl place x k c (omega (arith, lt, lv)) (sym word ∙ read_at vs place x (omega (arith, lt, lv))) h;
+    code = λ k c h. known_stands f ms ts ks vs all refl place x k c (omega (arith, lt, lv)) (sym word ∙ read_at vs place x (omega (arith, lt, lv))) h;
     word = λ k has. word_there place x k lt word has;
     keys = refl;
     claims = refl;
@@ -116,8 +121,10 @@ module _ (f : Frame) (ts ks vs : List ℕ) (lk : length ks ≡ f.cells) (lv : le
     frame = refl;
     few = few;
     bare = o.bare;
+    nothing = o.nothing;
+    trees = o.trees;
     within = inside_there;
-    one_key = one_there f ts ks vs lk lv o;
+    one_key = one_there f ms ts ks vs lk lv o;
     one_place = once_there;
     named = named_there;
     valued = λ q k c h.
@@ -126,10 +133,10 @@ module _ (f : Frame) (ts ks vs : List ℕ) (lk : length ks ≡ f.cells) (lv : le
         let there : get_or ks t.0 0 ≢ 0 = o.ordered.keyed t.0 (omega (arith, t.2, lv)) (λ z. omega (arith, z, word)) in
         keys_has ks 0 t.0 q k t.1 t.4 (λ z. there (t.4 ∙ z)) t.3;
     coded = λ q k c h i stands.
-        let settled = (final_at f ts ks vs lk lv o q k c h).settled in
-        subst (λ (j : Instance). IsCodeOf program j c) (stands_once all (one_there f ts ks vs lk lv o) program k settled.of i settled.stands stands) settled.code;
-    keyed = bit_keyed f ts ks vs lk lv o;
-    approximations = approximations f ts ks vs lk lv o;
+        let settled = (final_at f ms ts ks vs lk lv o q k c h).settled in
+        subst (λ (j : Instance). IsCodeOf program ms j c) (stands_once all (one_there f ms ts ks vs lk lv o) program (by_words f ms ts ks vs lk lv o) k settled.of i settled.stands stands) settled.code;
+    keyed = bit_keyed f ms ts ks vs lk lv o;
+    approximations = approximations f ms ts ks vs lk lv o;
     full = word_full;
     whole = λ e q k h. place_counted ks 0 q k h;
     to_seal = refl;
@@ -155,12 +162,23 @@ first_approximations p f = record {
   final = λ i c k. absurd k.settled;
 }
 
-pub first_own : (f : Frame) → f.cells ≤ 4194304 → HasSourcesAlone (program_of f.system.value) → IsPassOf f (first_view f)
-first_own f few bare = record {
+-- none made a tree yet, in a program that makes none
+pub no_trees : (f : Frame) → HasSourcesAlone (program_of f.system.value) → AreTrees (trees_of f [])
+no_trees f bare = record {
+  makers = tt;
+  small = λ a r m is. absurd (let none = never_makes (program_of f.system.value) bare a r in cc);
+  fit = trees_fit (program_of f.system.value) bare;
+  few = bare.few;
+}
+
+pub first_own : (f : Frame) → f.cells ≤ 4194304 → HasSourcesAlone (program_of f.system.value) → AreTrees (trees_of f []) → IsPassOf f (first_view f)
+first_own f few bare trees = record {
   table = refl;
   frame = refl;
   few = few;
   bare = bare;
+  nothing = refl;
+  trees = trees;
   within = λ p k h. absurd h;
   one_key = λ p j k g h. absurd h;
   one_place = λ p q k g h. absurd h;
@@ -175,37 +193,39 @@ first_own f few bare = record {
 }
 
 -- what a pass knows stands in such words, so it is a pass of these cells
-pub told_own : (f : Frame) (ks vs : List ℕ) → length ks ≡ f.cells → length vs ≡ f.cells → AreWords f [] ks vs → f.cells ≤ 4194304 → (v : View) → IsTold f ks vs v → IsPassOf f v
-told_own f ks vs lk lv o few v told =
-    let own = pass_of f [] ks vs lk lv o few in
+pub told_own : (f : Frame) (ms : List CodedInstance) (ks vs : List ℕ) → length ks ≡ f.cells → length vs ≡ f.cells → AreWords f ms [] ks vs → f.cells ≤ 4194304 → (v : View) → IsTold f ms ks vs v → IsPassOf f v
+told_own f ms ks vs lk lv o few v told =
+    let own = pass_of f ms [] ks vs lk lv o few in
     let program = program_of f.system.value in
-    let least = told_least f ks vs v told [] in
-    let u : View = knows_all f [] ks vs in
+    let least = told_least f ms ks vs v told [] in
+    let u : View = knows_all f ms [] ks vs in
     record {
       table = told.table;
       frame = told.frame;
       few = few;
       bare = o.bare;
+      nothing = told.made ∙ o.nothing;
+      trees = subst (λ (l : List CodedInstance). AreTrees (trees_of f l)) (sym told.made) o.trees;
       within = λ p k h. own.within p k (told.keys p k h);
       one_key = λ p j k g h. own.one_key p j k (told.keys p j g) (told.keys p k h);
       one_place = λ p q k g h. own.one_place p q k (told.keys p k g) (told.keys q k h);
-      named = λ s k a n cs h is. let it = own.named s k a n cs (told.keys s k h) (named_later v u least k a n cs is) in (it.0, stands_back u own.one_key v least program k a n cs it.0 is it.1);
+      named = λ s k a n cs h is. let it = own.named s k a n cs (told.keys s k h) (named_later v u least k a n cs is) in (it.0, stands_back u own.one_key v least told.made program k a n cs it.0 is it.1);
       valued = told.valued;
-      coded = λ p k c h i stands. own.coded p k c (told.values p k c h) i (stands_later v u least program k i stands);
+      coded = λ p k c h i stands. subst (λ (l : List CodedInstance). IsCodeOf program l i c) (sym told.made) (own.coded p k c (told.values p k c h) i (stands_later v u least program k i stands));
       keyed = told.keyed;
-      approximations = approximations_before program v u least own.approximations;
-      full = λ k full. value_word_before program v u least k 0 (own.full k (λ q lt. other_later v u k q least (full q lt)));
+      approximations = approximations_before program v u least told.made own.approximations;
+      full = λ k full. value_word_before program v u least told.made k 0 (own.full k (λ q lt. other_later v u k q least (full q lt)));
       whole = λ e p k h. told.own p k (told.keys p k h);
       to_seal = told.to_seal;
     }
 
 -- what a pass knows stands in the words of the cells: u is what one would know that has seen all of them
-module _ (f : Frame) (ks vs : List ℕ) (lk : length ks ≡ f.cells) (lv : length vs ≡ f.cells) (o : AreWords f [] ks vs) (v : View) (told : IsTold f ks vs v) (g : Frame) (own : IsPassOf g v) (place : ℕ) (lt : place < g.cells) where
+module _ (f : Frame) (ms : List CodedInstance) (ks vs : List ℕ) (lk : length ks ≡ f.cells) (lv : length vs ≡ f.cells) (o : AreWords f ms [] ks vs) (v : View) (told : IsTold f ms ks vs v) (g : Frame) (own : IsPassOf g v) (place : ℕ) (lt : place < g.cells) where
   abbrev p : Program
   p = program_of f.system.value
 
   abbrev u : View
-  u = knows_all f [] ks vs
+  u = knows_all f ms [] ks vs
 
   pub same : f ≡ g
   same = let e : Some f ≡ Some g = sym told.frame ∙ own.frame in cc
@@ -217,19 +237,19 @@ module _ (f : Frame) (ks vs : List ℕ) (lk : length ks ≡ f.cells) (lv : lengt
   few = subst (λ (h : Frame). h.cells ≤ 4194304) (sym same) own.few
 
   pub least : IsAtLeast v u
-  least = told_least f ks vs v told []
+  least = told_least f ms ks vs v told []
 
   -- a pass that knows more now
-  own_now : (js ws : List ℕ) → length js ≡ f.cells → length ws ≡ f.cells → AreWords f [] js ws → (w : View) → IsTold f js ws w → IsPassOf g w
-  own_now js ws lj lw a w t = subst (λ (h : Frame). IsPassOf h w) same (told_own f js ws lj lw a few w t)
+  own_now : (js ws : List ℕ) → length js ≡ f.cells → length ws ≡ f.cells → AreWords f ms [] js ws → (w : View) → IsTold f ms js ws w → IsPassOf g w
+  own_now js ws lj lw a w t = subst (λ (h : Frame). IsPassOf h w) same (told_own f ms js ws lj lw a few w t)
 
   -- ---- a key word was read
   module _ (found : ℕ) (e : found ≡ get_or ks place found) where
     abbrev key_after : View
     key_after = after v (Key place found)
 
-    pub key_now : IsTold f ks vs key_after
-    key_now = key_told f ks vs v told place found (omega (arith, inside, lk)) e
+    pub key_now : IsTold f ms ks vs key_after
+    key_now = key_told f ms ks vs v told place found (omega (arith, inside, lk)) e
 
     pub key_own : IsPassOf g key_after
     key_own = own_now ks vs lk lv o key_after key_now
@@ -237,11 +257,11 @@ module _ (f : Frame) (ks vs : List ℕ) (lk : length ks ≡ f.cells) (lv : lengt
     pub key_seen : KeySeen g v key_after place found
     key_seen = record {
       claimed = λ nz. with_key_here place found v.keys nz;
-      free = λ z k h. free_now f [] ks vs u refl place found (omega (arith, inside, lk)) e z k (key_now.keys place k h);
+      free = λ z k h. free_now f ms [] ks vs u refl place found (omega (arith, inside, lk)) e z k (key_now.keys place k h);
       nowhere = λ z k nz passed.
           let seen : IsPassed f u k place = λ q way. other_later v u k q least (passed q (subst (λ (h : Frame). Before h.cells (start h.cells k) place q) same way)) in
-          let none = nowhere_now f [] ks vs u refl p lk lv o.values o.ordered place found k inside e z nz seen in
-          subst (λ (h : Frame). IsMissing (program_of h.system.value) key_after k) same (missing_before p key_after u (told_least f ks vs key_after key_now []) k (word_missing f [] ks vs lk lv o k none));
+          let none = nowhere_now f ms [] ks vs u refl p lk lv o.values o.ordered place found k inside e z nz seen in
+          subst (λ (h : Frame). IsMissing (program_of h.system.value) key_after k) same (missing_before p key_after u (told_least f ms ks vs key_after key_now []) key_now.made k (word_missing f ms [] ks vs lk lv o k none));
       values = λ q k c h. h;
       claims = refl;
       log = refl;
@@ -259,18 +279,20 @@ module _ (f : Frame) (ks vs : List ℕ) (lk : length ks ≡ f.cells) (lv : lengt
     free : get_or ks place 0 ≡ 0
     free = read_at ks place found (omega (arith, inside, lk)) ∙ sym e ∙ z
 
-    pub claimed_words : AreWords f [] (set ks place key) vs
+    pub claimed_words : AreWords f ms [] (set ks place key) vs
     claimed_words = record {
       bare = o.bare;
+      nothing = o.nothing;
+      trees = o.trees;
       values = o.values;
       lower = o.lower;
-      ordered = ordered_after f [] ks vs u refl p lk lv o.values o.ordered place key inside free nz
+      ordered = ordered_after f ms [] ks vs u refl p lk lv o.values o.ordered place key inside free nz
           (formed_later v u least p key (subst (λ (h : Frame). IsFormed (program_of h.system.value) v key) (sym same) formed))
           (λ q way. other_later v u key q least (passed q (subst (λ (h : Frame). Before h.cells (start h.cells key) place q) same way)));
     }
 
-    pub claim_now : IsTold f (set ks place key) vs claim_after
-    claim_now = claim_told f ks vs v told place key (omega (arith, inside, lk)) free nz (kept_after f [] ks vs u refl p lk lv o.values o.ordered place key inside free)
+    pub claim_now : IsTold f ms (set ks place key) vs claim_after
+    claim_now = claim_told f ms ks vs v told place key (omega (arith, inside, lk)) free nz (kept_after f ms [] ks vs u refl p lk lv o.values o.ordered place key inside free)
 
     pub claimed_own : IsPassOf g claim_after
     claimed_own = own_now (set ks place key) vs (length-set ks place key ∙ lk) lv claimed_words claim_after claim_now
@@ -284,15 +306,15 @@ module _ (f : Frame) (ks vs : List ℕ) (lk : length ks ≡ f.cells) (lv : lengt
     }
 
   -- ---- a value word was read, or another one was put
-  module _ (found left : ℕ) (ws : List ℕ) (lw : length ws ≡ f.cells) (a : AreWords f [] ks ws) (more : IsAtLeast u (knows_all f [] ks ws)) (at : get_or ws place 0 ≡ left) where
+  module _ (found left : ℕ) (ws : List ℕ) (lw : length ws ≡ f.cells) (a : AreWords f ms [] ks ws) (more : IsAtLeast u (knows_all f ms [] ks ws)) (at : get_or ws place 0 ≡ left) where
     abbrev value_after : View
     value_after = after v (LeftValue place found left)
 
     abbrev later : View
-    later = knows_all f [] ks ws
+    later = knows_all f ms [] ks ws
 
-    pub value_now : IsTold f ks ws value_after
-    value_now = value_told f ks vs v told place found left ws (omega (arith, inside, lk)) (omega (arith, inside, lw)) at more
+    pub value_now : IsTold f ms ks ws value_after
+    value_now = value_told f ms ks vs v told place found left ws (omega (arith, inside, lk)) (omega (arith, inside, lw)) at more
 
     pub value_own : IsPassOf g value_after
     value_own = own_now ks ws lk lw a value_after value_now
@@ -308,29 +330,29 @@ module _ (f : Frame) (ks vs : List ℕ) (lk : length ks ≡ f.cells) (lv : lengt
     is_settled plain high k has = has_left (values_said place left v.keys) v.values (place, k, left - 2 ^ 63) (values_said_has place left k v.keys has high (key_plain k plain has))
 
     pub is_unset : left < 2 ^ 63 → (k c : ℕ) → ¬ Has value_after.values (place, k, c)
-    is_unset low k c h = unset_now f [] ks ws later refl place left (omega (arith, inside, lw)) left_is low k c (value_now.values place k c h)
+    is_unset low k c h = unset_now f ms [] ks ws later refl place left (omega (arith, inside, lw)) left_is low k c (value_now.values place k c h)
 
     plain_later : IsPlain v place → IsPlain later place
     plain_later plain = (plain.0, more.keys place plain.0 (told.keys place plain.0 plain.1), plain.2)
 
     pub is_small : IsPlain v place → left < 2 ^ 63 + 2 ^ 32
-    is_small plain = word_small f [] ks ws later refl p lk lw a.values a.ordered place left (omega (arith, inside, lw)) left_is (plain_later plain)
+    is_small plain = word_small f ms [] ks ws later refl p lk lw a.values a.ordered place left (omega (arith, inside, lw)) left_is (plain_later plain)
 
     pub were_others : (q k c : ℕ) → Has value_after.values (q, k, c) → Has v.values (q, k, c) ⊎ (q ≡ place)
     were_others q k c h = ⊎_elim (λ s. inr (said_values place left q k c v.keys s).0) inl (has_either (values_said place left v.keys) v.values (q, k, c) h)
 
     pub value_stays : (k c : ℕ) → Has v.values (place, k, c) → left ≡ c + 2 ^ 63
-    value_stays k c has = known_stands f [] ks ws later refl place left k c (omega (arith, inside, lw)) left_is (more.values place k c (told.values place k c has))
+    value_stays k c has = known_stands f ms [] ks ws later refl place left k c (omega (arith, inside, lw)) left_is (more.values place k c (told.values place k c has))
 
     pub bits_seen : BitsSeen (program_of g.system.value) v value_after place left
     bits_seen =
-        let seen = bits_of_words f [] ks ws lk lw a place left inside at in
+        let seen = bits_of_words f ms [] ks ws lk lw a place left inside at in
         subst (λ (h : Frame). BitsSeen (program_of h.system.value) v value_after place left) same
         (record {
           all = λ k n has low one. has_left (bits_said place left v.keys) v.bits (place, k, n) (bits_said_has place left k n v.keys has low one);
           only = λ k n h. seen.only k n (value_now.bits place k n h);
           code = value_stays;
-          word = λ k has. value_word_before p v later (at_least_then least more) k left (seen.word k (more.keys place k (told.keys place k has)));
+          word = λ k has. value_word_before p v later (at_least_then least more) told.made k left (seen.word k (more.keys place k (told.keys place k has)));
           keys = refl;
           claims = refl;
         })
@@ -340,7 +362,7 @@ module _ (f : Frame) (ks vs : List ℕ) (lk : length ks ≡ f.cells) (lv : lengt
     found_at : get_or vs place 0 ≡ found
     found_at = read_at vs place found (omega (arith, inside, lv)) ∙ sym e
 
-    pub read_now : IsTold f ks vs (after v (LeftValue place found found))
+    pub read_now : IsTold f ms ks vs (after v (LeftValue place found found))
     read_now = value_now found found vs lv o (at_least_itself u) found_at
 
     pub read_own : IsPassOf g (after v (LeftValue place found found))
@@ -373,7 +395,7 @@ module _ (f : Frame) (ks vs : List ℕ) (lk : length ks ≡ f.cells) (lv : lengt
       left_at = found_at found e ∙ sym is
 
       found_high : 2 ^ 63 ≤ left
-      found_high = let high = word_high f [] ks vs u refl p lk lv o.values o.ordered place code found (omega (arith, inside, lv)) e nz its in omega (arith, high, is)
+      found_high = let high = word_high f ms [] ks vs u refl p lk lv o.values o.ordered (trees_open f ms o.trees) place code found (omega (arith, inside, lv)) e nz its in omega (arith, high, is)
 
       pub value_lost : ValueTried v (after v (LeftValue place found left)) place code found
       value_lost = record {
@@ -384,7 +406,7 @@ module _ (f : Frame) (ks vs : List ℕ) (lk : length ks ≡ f.cells) (lv : lengt
         claims = refl;
       }
 
-      pub lost_now : IsTold f ks vs (after v (LeftValue place found left))
+      pub lost_now : IsTold f ms ks vs (after v (LeftValue place found left))
       lost_now = value_now found left vs lv o (at_least_itself u) left_at
 
     -- it is put
@@ -395,19 +417,19 @@ module _ (f : Frame) (ks vs : List ℕ) (lk : length ks ≡ f.cells) (lv : lengt
       unset : get_or vs place 0 ≡ 0
       unset = found_at found e ∙ z
 
-      pub settled_words : AreWords f [] ks put
-      settled_words = subst (λ (w : ℕ). AreWords f [] ks (set vs place w)) (sym is) (record { bare = o.bare; values = o.values; lower = o.lower; ordered = valued_after f [] ks vs u refl p lk lv o.values o.ordered place code inside unset its })
+      pub settled_words : AreWords f ms [] ks put
+      settled_words = subst (λ (w : ℕ). AreWords f ms [] ks (set vs place w)) (sym is) (record { bare = o.bare; nothing = o.nothing; trees = o.trees; values = o.values; lower = o.lower; ordered = valued_after f ms [] ks vs u refl p lk lv o.values o.ordered place code inside unset its })
 
       put_long : length put ≡ f.cells
       put_long = length-set vs place left ∙ lv
 
-      put_more : IsAtLeast u (knows_all f [] ks put)
-      put_more = subst (λ (w : ℕ). IsAtLeast u (knows_all f [] ks (set vs place w))) (sym is) (kept_value f [] ks vs u refl p lk lv o.values o.ordered place code inside unset its)
+      put_more : IsAtLeast u (knows_all f ms [] ks put)
+      put_more = subst (λ (w : ℕ). IsAtLeast u (knows_all f ms [] ks (set vs place w))) (sym is) (kept_value f ms [] ks vs u refl p lk lv o.values o.ordered place code inside unset its)
 
       put_at : get_or put place 0 ≡ left
       put_at = get_or-set_same vs place left 0 (omega (arith, inside, lv))
 
-      pub settled_now : IsTold f ks put (after v (LeftValue place found left))
+      pub settled_now : IsTold f ms ks put (after v (LeftValue place found left))
       settled_now = value_now found left put put_long settled_words put_more put_at
 
       pub settled_own : IsPassOf g (after v (LeftValue place found left))
@@ -418,6 +440,6 @@ module _ (f : Frame) (ks vs : List ℕ) (lk : length ks ≡ f.cells) (lv : lengt
         won = λ _ k has. subst (λ (y : ℕ). Has (after v (LeftValue place found left)).values (place, k, y)) (omega (arith, is)) (is_settled found left put put_long settled_words put_more put_at plain (omega (arith, is)) k has);
         lost = λ n. absurd (n z);
         code = omega (arith, z);
-        stays = λ k d has. absurd (let stands = known_stands f [] ks vs u refl place found k d (omega (arith, inside, lv)) e (told.values place k d has) in omega (arith, stands, z));
+        stays = λ k d has. absurd (let stands = known_stands f ms [] ks vs u refl place found k d (omega (arith, inside, lv)) e (told.values place k d has) in omega (arith, stands, z));
         claims = refl;
       }

@@ -9,8 +9,9 @@ use Rattle.equation_law.specs.Equations.{equations_of}
 use Rattle.equation_law.specs.Systems.{program_of}
 use Rattle.equation_law.proofs.Orders.{at_most_itself}
 use Rattle.equation_law.proofs.Solution.{are_rising}
+use Rattle.made_trees.specs.Makers.{AreTrees}
 use Rattle.memo_cells.specs.declared.view.View.{View}
-use Rattle.memo_cells.specs.Standing.{AreWords, IsTold}
+use Rattle.memo_cells.specs.Standing.{AreWords, IsTold, trees_of}
 use Rattle.memo_cells.specs.Views.{Has, bits_from, first_view, having_seen, keys_from, knows_all, places_from, values_from, word_at}
 use Rattle.memo_cells.specs.Words.{AreOrdered}
 use Rattle.memo_cells.proofs.Bits.{more_bits, no_bits, no_bits_below}
@@ -41,7 +42,7 @@ fresh_bits : (n p : ℕ) → bits_from p (replicate n 0) (replicate n 0) ≡ []
 fresh_bits zero p = (no_bits p 0 [] []).0
 fresh_bits (suc n) p = more_bits p 0 0 (replicate n 0) (replicate n 0) ∙ ap (λ l. l ++ bits_from (suc p) (replicate n 0) (replicate n 0)) (no_bits_below p 0 1) ∙ fresh_bits n (suc p)
 
-pub fresh_view : (f : Frame) (n : ℕ) → knows_all f [] (replicate n 0) (replicate n 0) ≡ first_view f
+pub fresh_view : (f : Frame) (n : ℕ) → knows_all f [] [] (replicate n 0) (replicate n 0) ≡ first_view f
 fresh_view f n = λ i. having_seen f (fresh_keys n 0 i) (fresh_values n 0 i) (fresh_bits n 0 i) (fresh_places n 0 i)
 
 pub fresh_ordered : (formed : ℕ → Type 0) (settled : ℕ → ℕ → Type 0) (raised : ℕ → Type 0) (element : ℕ → ℕ → Type 0) (n m : ℕ) → AreOrdered formed settled raised element n (word_at (replicate m 0)) (word_at (replicate m 0))
@@ -55,16 +56,18 @@ fresh_ordered formed settled raised element n m = record {
 }
 
 -- no word is set: each circular instance stands at its bottom
-pub fresh_words : (f : Frame) → HasSourcesAlone (program_of f.system.value) → (m : ℕ) → AreWords f [] (replicate m 0) (replicate m 0)
-fresh_words f bare m = record {
+pub fresh_words : (f : Frame) → HasSourcesAlone (program_of f.system.value) → AreTrees (trees_of f []) → (m : ℕ) → AreWords f [] [] (replicate m 0) (replicate m 0)
+fresh_words f bare trees m = record {
   bare = bare;
+  nothing = refl;
+  trees = trees;
   values = (equations_of (program_of f.system.value)).bottom;
   lower = record { top = (equations_of (program_of f.system.value)).bottom; reached = bottoms; fits = λ j c. (are_rising (program_of f.system.value)).start j c; below = λ j c. at_most_itself ((equations_of (program_of f.system.value)).bottom j) };
   ordered = fresh_ordered _ _ _ _ f.cells m;
 }
 
 -- a pass that knows nothing knows nothing else than these words
-pub first_told : (f : Frame) (n : ℕ) → IsTold f (replicate n 0) (replicate n 0) (first_view f)
+pub first_told : (f : Frame) (n : ℕ) → IsTold f [] (replicate n 0) (replicate n 0) (first_view f)
 first_told f n = record {
   table = refl;
   frame = refl;
@@ -77,4 +80,5 @@ first_told f n = record {
   claims = λ p. omega arith;
   own = λ p k h. absurd (subst (λ (y : View). Has y.keys (p, k)) (fresh_view f n) h);
   to_seal = refl;
+  made = refl;
 }

@@ -1,15 +1,20 @@
 -- What a reader tells that holds a pass, and that it goes on at the same cells.
 use Rattle.std.proofs.Common.{refl, sym, subst, ℕ, ◌<◌, ◌^◌, List, reverse, ◌∙◌}
+use Rattle.equation_law.specs.declared.coding.Instance.{Instance as CodedInstance}
+use Rattle.equation_law.specs.Checked.{IsInstance}
+use Rattle.equation_law.specs.Codes.{instance_by}
 use Rattle.equation_law.specs.Names.{Instance, Query}
 use Rattle.equation_law.specs.Systems.{program_of}
 use Rattle.memo_cells.specs.declared.view.Frame.{Frame}
 use Rattle.memo_cells.specs.Causes.{WhyMissing}
+use Rattle.memo_cells.specs.Agreeing.{ByEachAgreeing}
 use Rattle.memo_cells.specs.Keys.{query_word}
 use Rattle.memo_cells.proofs.Causes.{log_itself, log_then, missing_since}
 use Rattle.memo_cells.specs.Naming.{IsCellOf, IsFormed}
 use Rattle.memo_cells.specs.Standing.{IsPassOf}
 use Rattle.memo_cells.specs.Views.{IsFull, IsSlot}
-use Rattle.memo_cells.specs.Working.{GoesOn, HasCell, Held, IsOwn, ReadsOn, TellsPass, WhyMissingAt, program_at, told_by}
+use Rattle.memo_cells.specs.Working.{GoesOn, HasCell, Held, IsInstanceAt, IsOwn, ReadsOn, TellsPass, WhyMissingAt, program_at, told_by}
+use Rattle.memo_cells.proofs.Agreeing.{agrees_before}
 use Rattle.memo_cells.proofs.More.{at_least_itself, at_least_then}
 use Rattle.memo_cells.proofs.Naming.{cell_later}
 use Rattle.memo_cells.proofs.Ways.{IsOnWay}
@@ -25,9 +30,10 @@ told_pass d = record {
   may = λ i w k. k;
   keeps = λ x k. k;
   itself = λ own. record { on = record { cells = refl; lender = refl; own = own; kept = at_least_itself d.view; log = log_itself d.view }; claims = refl };
-  each = λ n is order. (is, order);
+  each = λ n is. is;
   named = λ n is. is;
-  knows = λ c. tt;
+  knows = λ c k. k;
+  known_alone = λ c k. k;
 }
 
 pub own_then : (d e : Held) → GoesOn d e → IsPassOf d.frame e.view
@@ -44,6 +50,10 @@ reads_itself d own = record { on = goes_itself d own; claims = refl }
 
 pub reads_then : (a b c : Held) → ReadsOn a b → ReadsOn b c → ReadsOn a c
 reads_then a b c x y = record { on = goes_then a b c x.on y.on; claims = y.claims ∙ x.claims }
+
+-- an instance of the program goes on to be one
+pub instance_on : (d e : Held) → GoesOn d e → (i : CodedInstance) → IsInstanceAt d i → ByEachAgreeing (program_at d) e.view.made (λ n. IsInstance (program_at d) (instance_by (program_at d) n i))
+instance_on d e on i is n agrees = is n (agrees_before (program_at d) on.kept.made agrees)
 
 -- the cell of an instance, seen where it went on to
 pub cell_on : (d e : Held) → GoesOn d e → (i : Instance) (s : ℕ) → IsCellOf (program_at d) d.frame d.view i s → IsCellOf (program_at e) e.frame e.view i s

@@ -5,6 +5,8 @@ use native.Mathlib.Decide.{ℕ_discrete, dec_le}
 use Rattle.std.specs.Int.{bit_at}
 use Rattle.std.proofs.lemmas.Bool.{le-leb, lt-leb}
 use Rattle.memo_cells.specs.declared.learning.Step.TheVariants.{Claim, Key, Value}
+use Rattle.equation_law.specs.declared.coding.Instance.{Instance as CodedInstance}
+use Rattle.made_trees.proofs.Following.{follow_itself, follow_same}
 use Rattle.memo_cells.specs.declared.view.Frame.{Frame}
 use Rattle.memo_cells.specs.declared.view.View.{View}
 use Rattle.memo_cells.specs.Keys.{is_set_word}
@@ -117,10 +119,10 @@ bits_said_has p x j n (k ∷ keys) h low one =
 
 module _ (v : View) (place : ℕ) where
   pub key_learnt : (found : ℕ) → IsAtLeast v (after v (Key place found))
-  key_learnt found = record { frame = refl; share = refl; keys = λ q j h. with_key_more place found v.keys (q, j) h; values = λ q j c h. h; bits = λ q j n h. h; claims = λ q. le_refl (times q v.claims) }
+  key_learnt found = record { frame = refl; share = refl; keys = λ q j h. with_key_more place found v.keys (q, j) h; values = λ q j c h. h; bits = λ q j n h. h; claims = λ q. le_refl (times q v.claims); made = follow_itself v.made }
 
   pub claim_learnt : (key : ℕ) → IsAtLeast v (after v (Claim place key))
-  claim_learnt key = record { frame = refl; share = refl; keys = λ q j h. inr h; values = λ q j c h. h; bits = λ q j n h. h; claims = λ q. omega arith }
+  claim_learnt key = record { frame = refl; share = refl; keys = λ q j h. inr h; values = λ q j c h. h; bits = λ q j n h. h; claims = λ q. omega arith; made = follow_itself v.made }
 
   pub value_learnt : (found left : ℕ) → IsAtLeast v (after v (Value place found left))
   value_learnt found left = record {
@@ -130,6 +132,7 @@ module _ (v : View) (place : ℕ) where
     values = λ q j c h. has_right (values_said place left v.keys) v.values (q, j, c) h;
     bits = λ q j n h. has_right (bits_said place left v.keys) v.bits (q, j, n) h;
     claims = λ q. le_refl (times q v.claims);
+    made = follow_itself v.made;
   }
 
 -- what is said of what a pass knew and knows, of the pass itself
@@ -144,8 +147,8 @@ pub own_inside : {f : Frame} {u v : View} → u ≡ v → IsPassOf f v → IsPas
 own_inside {f} is own = subst (λ (y : View). IsPassOf f y) (sym is) own
 
 -- what is left to seal makes no difference to it
-pub least_any : (f : Frame) (ts us ks vs ws : List ℕ) → IsAtLeast (knows_all f ts ks vs) (knows_all f us ks ws) → IsAtLeast (knows_all f [] ks vs) (knows_all f [] ks ws)
-least_any f ts us ks vs ws h = record { frame = refl; share = refl; keys = h.keys; values = h.values; bits = h.bits; claims = h.claims }
+pub least_any : (f : Frame) (ms : List CodedInstance) (ts us ks vs ws : List ℕ) → IsAtLeast (knows_all f ms ts ks vs) (knows_all f ms us ks ws) → IsAtLeast (knows_all f ms [] ks vs) (knows_all f ms [] ks ws)
+least_any f ms ts us ks vs ws h = record { frame = refl; share = refl; keys = h.keys; values = h.values; bits = h.bits; claims = h.claims; made = follow_itself ms }
 
 -- ---- all of it stands in the words
 
@@ -169,12 +172,12 @@ place_free (x ∷ ks) p (suc i) q lt free at =
     let other : if◌then◌else◌ {A = ℕ} (eqb q p) 1 0 ≡ 0 = ap (λ b. if◌then◌else◌ {A = ℕ} b 1 0) (ne_eqb q p (λ e. omega (arith, e, at))) in
     dite (ℕ_discrete x 0) (λ z. ap (times q) (zero_place p x ks z) ∙ rest) (λ nz. let more = ap (times q) (some_place p x ks nz) in omega (arith, more, rest, other))
 
-module _ (f : Frame) (ks vs : List ℕ) (v : View) (told : IsTold f ks vs v) where
-  pub told_least : (ts : List ℕ) → IsAtLeast v (knows_all f ts ks vs)
-  told_least ts = record { frame = sym told.frame; share = sym told.share; keys = told.keys; values = told.values; bits = told.bits; claims = told.claims }
+module _ (f : Frame) (ms : List CodedInstance) (ks vs : List ℕ) (v : View) (told : IsTold f ms ks vs v) where
+  pub told_least : (ts : List ℕ) → IsAtLeast v (knows_all f ms ts ks vs)
+  told_least ts = record { frame = sym told.frame; share = sym told.share; keys = told.keys; values = told.values; bits = told.bits; claims = told.claims; made = follow_same (sym told.made) }
 
   -- nothing, where it forgot what it had read
-  pub forgotten_told : IsTold f ks vs (forgotten v)
+  pub forgotten_told : IsTold f ms ks vs (forgotten v)
   forgotten_told = record {
     table = told.table;
     frame = told.frame;
@@ -187,10 +190,11 @@ module _ (f : Frame) (ks vs : List ℕ) (v : View) (told : IsTold f ks vs v) whe
     claims = told.claims;
     own = told.own;
     to_seal = told.to_seal;
+    made = told.made;
   }
 
   -- a key that was found
-  pub key_told : (place found : ℕ) → place < length ks → found ≡ get_or ks place found → IsTold f ks vs (after v (Key place found))
+  pub key_told : (place found : ℕ) → place < length ks → found ≡ get_or ks place found → IsTold f ms ks vs (after v (Key place found))
   key_told place found lt is = record {
     table = told.table;
     frame = told.frame;
@@ -203,10 +207,11 @@ module _ (f : Frame) (ks vs : List ℕ) (v : View) (told : IsTold f ks vs v) whe
     claims = told.claims;
     own = told.own;
     to_seal = told.to_seal;
+    made = told.made;
   }
 
   -- a key that was put at a free place
-  module _ (place key : ℕ) (lt : place < length ks) (free : get_or ks place 0 ≡ 0) (nz : key ≢ 0) (more : IsAtLeast (knows_all f [] ks vs) (knows_all f [] (set ks place key) vs)) where
+  module _ (place key : ℕ) (lt : place < length ks) (free : get_or ks place 0 ≡ 0) (nz : key ≢ 0) (more : IsAtLeast (knows_all f ms [] ks vs) (knows_all f ms [] (set ks place key) vs)) where
     put_there : (q j : ℕ) → q ≡ place → j ≡ key → Has (keys_from 0 (set ks place key)) (q, j)
     put_there q j here is = keys_has (set ks place key) 0 place q j (omega (arith, lt, length-set ks place key)) (get_or-set_same ks place key 0 lt ∙ sym is) (λ z. nz (sym is ∙ z)) (omega (arith, here))
 
@@ -234,7 +239,7 @@ module _ (f : Frame) (ks vs : List ℕ) (v : View) (told : IsTold f ks vs v) whe
         let before = told.own q j (keys_has ks 0 t.1.0 q j (let less = t.1.1 in omega (arith, less, length-set ks place key)) (sym (get_or-set_other ks place t.1.0 key 0 beside) ∙ t.1.3) t.0 t.1.2) in
         λ z. before (omega (arith, z)))
 
-    pub claim_told : IsTold f (set ks place key) vs (after v (Claim place key))
+    pub claim_told : IsTold f ms (set ks place key) vs (after v (Claim place key))
     claim_told = record {
       table = told.table;
       frame = told.frame;
@@ -247,14 +252,15 @@ module _ (f : Frame) (ks vs : List ℕ) (v : View) (told : IsTold f ks vs v) whe
       claims = counts;
       own = owned;
       to_seal = told.to_seal;
+      made = told.made;
     }
 
   -- a value word that was left at a place
-  module _ (place found left : ℕ) (ws : List ℕ) (lk : place < length ks) (lw : place < length ws) (is : get_or ws place 0 ≡ left) (more : IsAtLeast (knows_all f [] ks vs) (knows_all f [] ks ws)) where
+  module _ (place found left : ℕ) (ws : List ℕ) (lk : place < length ks) (lw : place < length ws) (is : get_or ws place 0 ≡ left) (more : IsAtLeast (knows_all f ms [] ks vs) (knows_all f ms [] ks ws)) where
     key_at : (j : ℕ) → Has v.keys (place, j) → get_or ks place 0 ≡ j
     key_at j h = let t = has_keys ks 0 place j (told.keys place j h) in let here : t.1.0 ≡ place = (let at = t.1.2 in omega (arith, at)) in ap (λ y. get_or ks y 0) (sym here) ∙ t.1.3
 
-    pub value_told : IsTold f ks ws (after v (Value place found left))
+    pub value_told : IsTold f ms ks ws (after v (Value place found left))
     value_told = record {
       table = told.table;
       frame = told.frame;
@@ -271,4 +277,5 @@ module _ (f : Frame) (ks vs : List ℕ) (v : View) (told : IsTold f ks vs v) whe
       claims = told.claims;
       own = told.own;
       to_seal = told.to_seal;
+      made = told.made;
     }

@@ -1,4 +1,5 @@
 pub mod Adding
+pub mod Agreeing
 pub mod Alone
 pub mod Bits
 pub mod Causes

@@ -8,24 +8,26 @@ use Rattle.std.proofs.lemmas.Nat.Bits.{bit_at-zero, bit_at_lowest}
 use Rattle.attr_rules.specs.declared.kinds.Kind.{Kind}
 use Rattle.attr_rules.specs.declared.kinds.Kind.TheVariants as kinds
 use Rattle.attr_rules.specs.Rules.{is_single}
-use Rattle.equation_law.specs.Codes.{IsSmall, IsValueCode, source_names, value_at}
+use Rattle.equation_law.specs.declared.coding.Instance.{Instance as CodedInstance}
+use Rattle.equation_law.specs.Codes.{IsSmall, value_at}
 use Rattle.equation_law.specs.Equations.{HasValue, equations_of, kind_in}
-use Rattle.equation_law.specs.Keys.{HasCode, IsElementCode}
 use Rattle.equation_law.specs.Names.{Instance}
 use Rattle.equation_law.specs.Program.{Program, text_of}
 use Rattle.equation_law.specs.Systems.{program_of}
 use Rattle.equation_law.specs.Loops.{order_in}
 use Rattle.equation_law.specs.Values.{Value, as_kind, truth}
-use Rattle.equation_law.proofs.Codes.{sources_named}
 use Rattle.equation_law.proofs.Solution.{one}
 use Rattle.memo_cells.specs.declared.view.Frame.{Frame}
 use Rattle.memo_cells.specs.declared.view.View.{View}
+use Rattle.made_trees.specs.Made.{naming_by_makers}
+use Rattle.memo_cells.specs.Agreeing.{HasCodeAt, IsElementAt, IsValueCodeAt}
 use Rattle.memo_cells.specs.Keys.{is_set_word}
 use Rattle.memo_cells.specs.Naming.{StandsFor}
 use Rattle.memo_cells.specs.Showing.{ShowsAtLeast, ShowsAtMost, ShowsCode, ShowsTrue}
 use Rattle.memo_cells.specs.Standing.{AreApproximations, AreWords, IsCodeOf, IsElement, IsFinal, IsPart, IsRaised, Knows}
 use Rattle.memo_cells.specs.Views.{Has, knows_all, shown_bits}
 use Rattle.memo_cells.specs.Words.{IsCoded}
+use Rattle.memo_cells.proofs.Agreeing.{IsOpen, trees_open}
 use Rattle.memo_cells.proofs.Bits.{bits_has, has_bits}
 use Rattle.memo_cells.proofs.Naming.{stands_once, stands_plain, word_of_once, word_set}
 use Rattle.memo_cells.proofs.Places.{has_keys, has_values, keys_has}
@@ -44,12 +46,12 @@ pub set_bits : (k b : ℕ) → is_set_word k ≡ true → b < 64 → b < shown_b
 set_bits k b set low = let all : shown_bits k ≡ 64 = ap (λ t. if◌then◌else◌ t 64 1) set in omega (arith, all, low)
 
 -- the code of a truth value
-module _ (p : Program) (i : Instance) (c : ℕ) (code : IsCodeOf p i c) (kind : kind_in p i ≡ kinds.Truth) where
+module _ (p : Program) (ms : List CodedInstance) (by : IsOpen p ms) (i : Instance) (c : ℕ) (code : IsCodeOf p ms i c) (kind : kind_in p i ≡ kinds.Truth) where
   at_truth : (value_at (text_of p) kinds.Truth c ≡ as_kind kinds.Truth code.value) × (c ≤ 1)
   at_truth =
-      let both : ((is_single kinds.Truth ≡ true) → IsValueCode p kinds.Truth c (as_kind kinds.Truth code.value)) × IsSmall kinds.Truth c
-      = subst (λ (k : Kind). (is_single k ≡ true → IsValueCode p k c (as_kind k code.value)) × IsSmall k c) kind (code.coded, code.small) in
-      (both.0 refl (source_names (text_of p)) (sources_named p), both.1)
+      let both : ((is_single kinds.Truth ≡ true) → IsValueCodeAt p ms kinds.Truth c (as_kind kinds.Truth code.value)) × IsSmall kinds.Truth c
+      = subst (λ (k : Kind). (is_single k ≡ true → IsValueCodeAt p ms k c (as_kind k code.value)) × IsSmall k c) kind (code.coded, code.small) in
+      (both.0 refl (naming_by_makers p ms) by, both.1)
 
   pub code_true : c % 2 ≡ 1 → truth code.value ≡ true
   code_true odd =
@@ -62,12 +64,15 @@ module _ (p : Program) (i : Instance) (c : ℕ) (code : IsCodeOf p i c) (kind : 
       let is : not (eqb c 0) ≡ truth code.value = ap truth at_truth.0 in
       dite (ℕ_discrete c 0) (λ z. let no : not (eqb c 0) ≡ false = ap (λ (y : ℕ). not (eqb y 0)) z in absurd (not_both no (is ∙ e))) (λ nz. omega (arith, nz, at_truth.1))
 
-module _ (f : Frame) (ts ks vs : List ℕ) (lk : length ks ≡ f.cells) (lv : length vs ≡ f.cells) (o : AreWords f ts ks vs) where
+module _ (f : Frame) (ms : List CodedInstance) (ts ks vs : List ℕ) (lk : length ks ≡ f.cells) (lv : length vs ≡ f.cells) (o : AreWords f ms ts ks vs) where
   abbrev p : Program
   p = program_of f.system.value
 
   abbrev v : View
-  v = knows_all f ts ks vs
+  v = knows_all f ms ts ks vs
+
+  pub by_words : IsOpen p ms
+  by_words = trees_open f ms o.trees
 
   -- at a place stands one key
   pub one_there : (s j k : ℕ) → Has v.keys (s, j) → Has v.keys (s, k) → j ≡ k
@@ -105,14 +110,14 @@ module _ (f : Frame) (ts ks vs : List ℕ) (lk : length ks ≡ f.cells) (lv : le
       let t = has_bits ks vs 0 h.1 h.0 0 h.3 in
       ⊎_elim
       (λ x.
-      let of : x.2.settled.of ≡ i = stands_once v one_there p h.0 x.2.settled.of i x.2.settled.stands h.2 in
+      let of : x.2.settled.of ≡ i = stands_once v one_there p by_words h.0 x.2.settled.of i x.2.settled.stands h.2 in
       let back = sym of in
       let is_kind : kind_in p x.2.settled.of ≡ kinds.Truth = ap (kind_in p) of ∙ kind in
       let is_circular : (equations_of p).circular x.2.settled.of ≡ true = ap (equations_of p).circular of ∙ circular in
-      let yes = code_true p x.2.settled.of x.0 x.2.settled.code is_kind (lowest (get_or vs t.0 0) x.0 x.1 t.6) in
+      let yes = code_true p ms by_words x.2.settled.of x.0 x.2.settled.code is_kind (lowest (get_or vs t.0 0) x.0 x.1 t.6) in
       subst (λ (j : Instance). truth (o.values j) ≡ true) of ((x.2.lower is_circular).in_truth yes)
       )
-      (λ x. subst (λ (j : Instance). truth (o.values j) ≡ true) (stands_once v one_there p h.0 x.1.of i x.1.stands h.2) x.1.is_true)
+      (λ x. subst (λ (j : Instance). truth (o.values j) ≡ true) (stands_once v one_there p by_words h.0 x.1.of i x.1.stands h.2) x.1.is_true)
       (coded_at t.0 h.0 (omega (arith, t.1, lk)) t.4 (stands_plain p v h.0 i h.2) (some_word (get_or vs t.0 0) 0 t.6))
 
   -- an undeclared truth value is shown only once it is settled
@@ -121,31 +126,31 @@ module _ (f : Frame) (ts ks vs : List ℕ) (lk : length ks ≡ f.cells) (lv : le
       let t = has_bits ks vs 0 h.1 h.0 0 h.3 in
       ⊎_elim
       (λ x.
-      let of : x.2.settled.of ≡ i = stands_once v one_there p h.0 x.2.settled.of i x.2.settled.stands h.2 in
+      let of : x.2.settled.of ≡ i = stands_once v one_there p by_words h.0 x.2.settled.of i x.2.settled.stands h.2 in
       let is_kind : kind_in p x.2.settled.of ≡ kinds.Truth = ap (kind_in p) of ∙ kind in
-      let yes = code_true p x.2.settled.of x.0 x.2.settled.code is_kind (lowest (get_or vs t.0 0) x.0 x.1 t.6) in
+      let yes = code_true p ms by_words x.2.settled.of x.0 x.2.settled.code is_kind (lowest (get_or vs t.0 0) x.0 x.1 t.6) in
       subst (λ (j : Instance). (y : Value) × HasValue p j y × (truth y ≡ true)) of (x.2.settled.code.value, x.2.settled.code.has, yes)
       )
       (λ x.
-      let of : x.1.of ≡ i = stands_once v one_there p h.0 x.1.of i x.1.stands h.2 in
+      let of : x.1.of ≡ i = stands_once v one_there p by_words h.0 x.1.of i x.1.stands h.2 in
       absurd (not_both plain (ap (equations_of p).circular (sym of) ∙ x.1.is_circular))
       )
       (coded_at t.0 h.0 (omega (arith, t.1, lk)) t.4 (stands_plain p v h.0 i h.2) (some_word (get_or vs t.0 0) 0 t.6))
 
   -- an element that is shown
-  both_shown : (i : Instance) (c : ℕ) → ShowsCode p v i c → IsPart p o.values i c × IsElementCode p (kind_in p i) c
+  both_shown : (i : Instance) (c : ℕ) → ShowsCode p v i c → IsPart p ms o.values i c × IsElementAt p ms (kind_in p i) c
   both_shown i c h =
       let t = has_bits ks vs 0 h.1 h.0 (c % 64) h.3 in
       let set = word_set p v h.0 i (c / 64) h.2 in
       let at : IsElement p v o.values h.0 (c % 64) = subst (λ (y : ℕ). IsElement p v o.values y (c % 64)) t.4 (o.ordered.elements t.0 (c % 64) (omega (arith, t.1, lk)) (ap is_set_word t.4 ∙ set) (omega arith) t.6) in
-      let same = word_of_once v one_there p h.0 at.of i at.word (c / 64) at.key h.2 in
+      let same = word_of_once v one_there p by_words h.0 at.of i at.word (c / 64) at.key h.2 in
       let code : 64 * at.word + c % 64 ≡ c = omega (arith, same.1) in
-      subst (λ (y : Instance × ℕ). IsPart p o.values y.0 y.1 × IsElementCode p (kind_in p y.0) y.1) (λ j. (same.0 j, code j)) (at.part, at.code)
+      subst (λ (y : Instance × ℕ). IsPart p ms o.values y.0 y.1 × IsElementAt p ms (kind_in p y.0) y.1) (λ j. (same.0 j, code j)) (at.part, at.code)
 
-  part_shown : (i : Instance) (c : ℕ) → ShowsCode p v i c → IsPart p o.values i c
+  part_shown : (i : Instance) (c : ℕ) → ShowsCode p v i c → IsPart p ms o.values i c
   part_shown i c h = (both_shown i c h).0
 
-  part_below : (i : Instance) (c : ℕ) → (equations_of p).circular i ≡ true → ShowsCode p v i c → HasCode p (kind_in p i) (o.values i) c
+  part_below : (i : Instance) (c : ℕ) → (equations_of p).circular i ≡ true → ShowsCode p v i c → HasCodeAt p ms (kind_in p i) (o.values i) c
   part_below i c circular h = ⊎_elim (λ a. a.1) (λ a. absurd (not_both a.0 circular)) (part_shown i c h)
 
   pub shown_at_most : (i : Instance) (k : Kind) → kind_in p i ≡ k → (equations_of p).circular i ≡ true → ShowsAtMost p v i k (o.values i)
@@ -153,15 +158,15 @@ module _ (f : Frame) (ts ks vs : List ℕ) (lk : length ks ≡ f.cells) (lv : le
   shown_at_most i kinds.Int e c = tt
   shown_at_most i kinds.Text e c = tt
   shown_at_most i (kinds.Node d) e c = tt
-  shown_at_most i kinds.Texts e c = λ x h. subst (λ (k : Kind). HasCode p k (o.values i) x) e (part_below i x c h)
-  shown_at_most i (kinds.Nodes d) e c = λ x h. subst (λ (k : Kind). HasCode p k (o.values i) x) e (part_below i x c h)
+  shown_at_most i kinds.Texts e c = λ x h. subst (λ (k : Kind). HasCodeAt p ms k (o.values i) x) e (part_below i x c h)
+  shown_at_most i (kinds.Nodes d) e c = λ x h. subst (λ (k : Kind). HasCodeAt p ms k (o.values i) x) e (part_below i x c h)
 
   -- a settled value is shown
-  shown_at_least : (i : Instance) (k : Kind) (s key c : ℕ) → kind_in p i ≡ k → StandsFor p v key i → Has v.values (s, key, c) → (code : IsCodeOf p i c) → (is_single (kind_in p i) ≡ false → ShowsAtLeast p v i (kind_in p i) code.value) → ShowsAtLeast p v i k code.value
+  shown_at_least : (i : Instance) (k : Kind) (s key c : ℕ) → kind_in p i ≡ k → StandsFor p v key i → Has v.values (s, key, c) → (code : IsCodeOf p ms i c) → (is_single (kind_in p i) ≡ false → ShowsAtLeast p v i (kind_in p i) code.value) → ShowsAtLeast p v i k code.value
   shown_at_least i kinds.Truth s key c e stands h code shown = λ yes.
       let t = has_values ks vs 0 s key c h in
       let word = t.5 in
-      let one : c ≡ 1 = true_code p i c code e yes in
+      let one : c ≡ 1 = true_code p ms by_words i c code e yes in
       let low = bit_at_lowest (get_or vs t.0 0) in
       let bit : bit_at (get_or vs t.0 0) 0 ≡ 1 = omega (arith, word, one, low) in
       (key, s, stands, bits_has ks vs 0 t.0 s key 0 t.1 t.2 t.4 (some_bits key) bit t.3)
@@ -174,14 +179,14 @@ module _ (f : Frame) (ts ks vs : List ℕ) (lk : length ks ≡ f.cells) (lv : le
   pub settled_shown : (i : Instance) → Knows p v i → (x : Value) × HasValue p i x × ShowsAtLeast p v i (kind_in p i) x
   settled_shown i known =
       let at = (final_at known.slot known.key known.code known.settled).settled in
-      let of : at.of ≡ i = stands_once v one_there p known.key at.of i at.stands known.stands in
+      let of : at.of ≡ i = stands_once v one_there p by_words known.key at.of i at.stands known.stands in
       subst (λ (j : Instance). (x : Value) × HasValue p j x × ShowsAtLeast p v j (kind_in p j) x) of (at.code.value, at.code.has, shown_at_least at.of (kind_in p at.of) known.slot known.key known.code refl at.stands known.settled at.code at.shown)
 
   -- the value of what is settled is at most that of the lower assignment
   final_below : (i : Instance) → (equations_of p).circular i ≡ true → Knows p v i → (x : Value) → HasValue p i x → order_in p i x (o.values i)
   final_below i circular known x has =
       let final = final_at known.slot known.key known.code known.settled in
-      let of : final.settled.of ≡ i = stands_once v one_there p known.key final.settled.of i final.settled.stands known.stands in
+      let of : final.settled.of ≡ i = stands_once v one_there p by_words known.key final.settled.of i final.settled.stands known.stands in
       let same : final.settled.code.value ≡ x = one p i final.settled.code.value x (subst (λ (j : Instance). HasValue p j final.settled.code.value) of final.settled.code.has) has in
       subst (λ (y : Instance × Value). order_in p y.0 y.1 (o.values y.0)) (λ q. (of q, same q)) (final.lower (ap (equations_of p).circular of ∙ circular))
 

@@ -2,13 +2,14 @@
 use Rattle.std.proofs.Common.{inl, inr, ⊎_elim, ap, ◌≡◌, ◌≢◌, ℕ, ◌+◌, ◌<◌, ◌≤◌, refl, sym, subst, ◌∙◌, arith, le_refl}
 use mathlib.Core.Logic.{dite}
 use native.Mathlib.Decide.{ℕ_discrete, dec_le}
+use Rattle.made_trees.proofs.Following.{follow_itself, follow_on}
 use Rattle.memo_cells.specs.declared.view.Frame.{Frame}
 use Rattle.memo_cells.specs.declared.view.View.{View}
 use Rattle.memo_cells.specs.Standing.{IsPassOf}
 use Rattle.memo_cells.specs.Views.{ClaimsOnly, Has, IsAtLeast, IsFull, IsLedTo, IsNowhere, IsOther, IsOtherIn, IsPassed, times}
 
 pub at_least_itself : (v : View) → IsAtLeast v v
-at_least_itself v = record { frame = refl; share = refl; keys = λ p k h. h; values = λ p k c h. h; bits = λ p k n h. h; claims = λ p. le_refl (times p v.claims) }
+at_least_itself v = record { frame = refl; share = refl; keys = λ p k h. h; values = λ p k c h. h; bits = λ p k n h. h; claims = λ p. le_refl (times p v.claims); made = follow_itself v.made }
 
 pub at_least_then : {u v w : View} → IsAtLeast u v → IsAtLeast v w → IsAtLeast u w
 at_least_then {u} {v} {w} a b = record {
@@ -18,6 +19,7 @@ at_least_then {u} {v} {w} a b = record {
   values = λ p k c h. b.values p k c (a.values p k c h);
   bits = λ p k n h. b.bits p k n (a.bits p k n h);
   claims = λ p. let x = a.claims p in let y = b.claims p in omega (arith, x, y);
+  made = follow_on a.made b.made;
 }
 
 -- a call that claims nothing claims the key only

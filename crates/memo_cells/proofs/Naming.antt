@@ -2,17 +2,22 @@
 use Rattle.std.proofs.Common.{◌≡◌, ℕ, true, false, ◌^◌, ◌/◌, ◌<◌, List, [], ◌∷◌, reverse, refl, sym, ap, ◌∙◌, subst, arith, inl, inr, ⊎_elim, eq-eqb, ne_eqb}
 use Rattle.std.proofs.lemmas.List.{reverse-reverse}
 use Rattle.rag_io.specs.Pool.{ArePooled}
-use Rattle.equation_law.specs.Codes.{IsNamingOf, Naming, arguments_by, reference_by, source_names}
+use Rattle.equation_law.specs.declared.coding.Instance.{Instance as CodedInstance}
+use Rattle.equation_law.specs.Codes.{Naming, arguments_by, reference_by}
+use Rattle.equation_law.specs.Equations.{kind_in}
 use Rattle.equation_law.specs.Names.{Argument, Attribute, Instance, Query, Reference}
-use Rattle.equation_law.specs.Program.{Program, attribute_parameters, text_of}
-use Rattle.equation_law.proofs.Codes.{one_reference, sources_named}
+use Rattle.equation_law.specs.Program.{Program, attribute_parameters}
+use Rattle.equation_law.proofs.Codes.{one_reference}
 use Rattle.equation_law.proofs.Keys.{one_list}
 use Rattle.memo_cells.specs.declared.view.Frame.{Frame}
 use Rattle.memo_cells.specs.declared.view.View.{View}
+use Rattle.made_trees.specs.Made.{naming_by_makers}
+use Rattle.memo_cells.specs.Agreeing.{Agrees, AreArgumentCodesAt, IsKnownNode, AreKnownCodes, IsReferenceAt}
 use Rattle.memo_cells.specs.Keys.{argument_word, attribute_word, is_set_word, query_word, set_word}
 use Rattle.memo_cells.specs.Naming.{IsAttributeKey, IsCellOf, IsFormed, IsKeyTo, IsNamed, IsWordOf, StandsFor}
 use Rattle.memo_cells.specs.Standing.{Knows}
 use Rattle.memo_cells.specs.Views.{Has, IsAtLeast}
+use Rattle.memo_cells.proofs.Agreeing.{IsOpen, agrees_before, codes_known_later, element_later, node_known_later, reference_later}
 
 -- what stands for something goes on to stand for it
 module _ (v w : View) (more : IsAtLeast v w) where
@@ -24,9 +29,10 @@ module _ (v w : View) (more : IsAtLeast v w) where
   stands_later p k (Attribute a r xs) h = record {
     node = h.node;
     codes = h.codes;
-    at = h.at;
+    at = reference_later p more.made h.node r h.at;
     good = h.good;
-    arguments = h.arguments;
+    arguments = λ n agrees. h.arguments n (agrees_before p more.made agrees);
+    known = (node_known_later p more.made h.node h.known.0, codes_known_later p more.made (attribute_parameters p a) h.codes h.known.1);
     named = named_later k a h.node (reverse h.codes) h.named;
   }
   stands_later p k (Query q) h = h
@@ -40,7 +46,7 @@ module _ (v w : View) (more : IsAtLeast v w) where
   pub formed_later : (p : Program) (k : ℕ) → IsFormed p v k → IsFormed p w k
   formed_later p k h =
       ⊎_elim (λ x. inl (record { of = x.of; instance = x.instance; key = key_later p x.of k x.key }))
-      (λ x. inr (record { of = x.of; instance = x.instance; word = x.word; key = word_later p k x.of x.word x.key; code = x.code; element = x.element; lies = x.lies })) h
+      (λ x. inr (record { of = x.of; instance = x.instance; word = x.word; key = word_later p k x.of x.word x.key; code = x.code; element = element_later p more.made (kind_in p x.of) x.code x.element; lies = x.lies })) h
 
   pub knows_later : (p : Program) (i : Instance) → Knows p v i → Knows p w i
   knows_later p i h = record { key = h.key; stands = stands_later p h.key i h.stands; slot = h.slot; code = h.code; settled = more.values h.slot h.key h.code h.settled }
@@ -112,21 +118,20 @@ module _ (v : View) (one_key : (s j k : ℕ) → Has v.keys (s, j) → Has v.key
       (rest.0, rest.1, (λ i. same.1 i ∷ rest.2 i))
 
   -- so it stands for one instance
-  pub stands_once : (p : Program) (k : ℕ) (i j : Instance) → StandsFor p v k i → StandsFor p v k j → i ≡ j
-  stands_once p k (Attribute a r xs) (Attribute b s ys) g h =
+  pub stands_once : (p : Program) → IsOpen p v.made → (k : ℕ) (i j : Instance) → StandsFor p v k i → StandsFor p v k j → i ≡ j
+  stands_once p by k (Attribute a r xs) (Attribute b s ys) g h =
       let one = one_name k a g.node b h.node (reverse g.codes) (reverse h.codes) g.named h.named in
       let codes : g.codes ≡ h.codes = sym (reverse-reverse g.codes) ∙ ap reverse one.2 ∙ reverse-reverse h.codes in
-      let n = source_names (text_of p) in
-      let named = sources_named p in
-      let node : r ≡ s = sym (g.at n named) ∙ ap (reference_by n.node) one.1 ∙ h.at n named in
-      let arguments : xs ≡ ys = sym (g.arguments n named) ∙ (λ i. arguments_by n (attribute_parameters p (one.0 i)) (codes i)) ∙ h.arguments n named in
+      let n = naming_by_makers p v.made in
+      let node : r ≡ s = sym (g.at n by) ∙ ap (reference_by n.node) one.1 ∙ h.at n by in
+      let arguments : xs ≡ ys = sym (g.arguments n by) ∙ (λ i. arguments_by n (attribute_parameters p (one.0 i)) (codes i)) ∙ h.arguments n by in
       (λ i. Attribute (one.0 i) (node i) (arguments i))
-  stands_once p k (Attribute a r xs) (Query q) g h = absurd (named_query v k a g.node (reverse g.codes) q g.named h.1)
-  stands_once p k (Query q) (Attribute b s ys) g h = absurd (named_query v k b h.node (reverse h.codes) q h.named g.1)
-  stands_once p k (Query q) (Query r) g h = let same : q ≡ r = omega (arith, sym g.1 ∙ h.1) in ap Query same
+  stands_once p by k (Attribute a r xs) (Query q) g h = absurd (named_query v k a g.node (reverse g.codes) q g.named h.1)
+  stands_once p by k (Query q) (Attribute b s ys) g h = absurd (named_query v k b h.node (reverse h.codes) q h.named g.1)
+  stands_once p by k (Query q) (Query r) g h = let same : q ≡ r = omega (arith, sym g.1 ∙ h.1) in ap Query same
 
-  -- and what it stands for has the attribute, the node and the arguments of its codes, by each naming
-  pub stands_named : (p : Program) {m : Naming} → IsNamingOf p m → (k a n : ℕ) (cs : List ℕ) (j : Instance) → StandsFor p v k j → IsNamed v k a n (reverse cs) → Attribute a (reference_by m.node n) (arguments_by m (attribute_parameters p a) cs) ≡ j
+  -- and what it stands for has the attribute, the node and the arguments of its codes, by each naming that agrees
+  pub stands_named : (p : Program) {m : Naming} → Agrees p v.made m → (k a n : ℕ) (cs : List ℕ) (j : Instance) → StandsFor p v k j → IsNamed v k a n (reverse cs) → Attribute a (reference_by m.node n) (arguments_by m (attribute_parameters p a) cs) ≡ j
   stands_named p {m} h k a n cs (Attribute b r ys) g named =
       let one = one_name k a n b g.node (reverse cs) (reverse g.codes) named g.named in
       let codes : cs ≡ g.codes = sym (reverse-reverse cs) ∙ ap reverse one.2 ∙ reverse-reverse g.codes in
@@ -135,26 +140,35 @@ module _ (v : View) (one_key : (s j k : ℕ) → Has v.keys (s, j) → Has v.key
       (λ i. Attribute (one.0 i) (node i) (arguments i))
   stands_named p h k a n cs (Query q) g named = absurd (named_query v k a n (reverse cs) q named g.1)
 
-  -- what it stands for it stands for by a view that knows less, if that knows its way
-  pub stands_back : (less : View) → IsAtLeast less v → (p : Program) (k a n : ℕ) (cs : List ℕ) (i : Instance) → IsNamed less k a n cs → StandsFor p v k i → StandsFor p less k i
-  stands_back less more p k a n cs (Attribute b r xs) named h =
+  -- and the pass knows the node and the codes
+  pub stands_known : (p : Program) (k a n : ℕ) (cs : List ℕ) (j : Instance) → StandsFor p v k j → IsNamed v k a n (reverse cs) → IsKnownNode v.made n × AreKnownCodes v.made (attribute_parameters p a) cs
+  stands_known p k a n cs (Attribute b r ys) g named =
+      let one = one_name k a n b g.node (reverse cs) (reverse g.codes) named g.named in
+      let codes : cs ≡ g.codes = sym (reverse-reverse cs) ∙ ap reverse one.2 ∙ reverse-reverse g.codes in
+      (subst (IsKnownNode v.made) (sym one.1) g.known.0, subst (λ (y : ℕ × List ℕ). AreKnownCodes v.made (attribute_parameters p y.0) y.1) (λ i. (sym one.0 i, sym codes i)) g.known.1)
+  stands_known p k a n cs (Query q) g named = absurd (named_query v k a n (reverse cs) q named g.1)
+
+  -- what it stands for it stands for by a view that knows less, but of the same trees, if that knows its way
+  pub stands_back : (less : View) → IsAtLeast less v → less.made ≡ v.made → (p : Program) (k a n : ℕ) (cs : List ℕ) (i : Instance) → IsNamed less k a n cs → StandsFor p v k i → StandsFor p less k i
+  stands_back less more same p k a n cs (Attribute b r xs) named h =
       let one = one_name k a n b h.node cs (reverse h.codes) (named_later less v more k a n cs named) h.named in
       record {
         node = h.node;
         codes = h.codes;
-        at = h.at;
+        at = subst (λ (ms : List CodedInstance). IsReferenceAt p ms h.node r) (sym same) h.at;
         good = h.good;
-        arguments = h.arguments;
+        arguments = subst (λ (ms : List CodedInstance). AreArgumentCodesAt p ms (attribute_parameters p b) h.codes xs) (sym same) h.arguments;
+        known = subst (λ (ms : List CodedInstance). IsKnownNode ms h.node × AreKnownCodes ms (attribute_parameters p b) h.codes) (sym same) h.known;
         named = subst (λ (y : ℕ × ℕ × List ℕ). IsNamed less k y.0 y.1 y.2) (λ j. (one.0 j, one.1 j, one.2 j)) named;
       }
-  stands_back less more p k a n cs (Query q) named h = h
+  stands_back less more same p k a n cs (Query q) named h = h
 
   -- the key of a word of a set is of one instance, and of one of its words
-  pub word_of_once : (p : Program) (k : ℕ) (i j : Instance) (w x : ℕ) → IsWordOf p v k i w → IsWordOf p v k j x → (i ≡ j) × (w ≡ x)
-  word_of_once p k i j w x g h =
+  pub word_of_once : (p : Program) → IsOpen p v.made → (k : ℕ) (i j : Instance) (w x : ℕ) → IsWordOf p v k i w → IsWordOf p v k j x → (i ≡ j) × (w ≡ x)
+  word_of_once p by k i j w x g h =
       let same = one_set_word g.slot w h.slot x g.small h.small (sym g.is ∙ h.is) in
       let key : h.key ≡ g.key = one_key g.slot h.key g.key (subst (λ (s : ℕ). Has v.keys (s, h.key)) (sym same.0) h.there) g.there in
-      (stands_once p g.key i j g.stands (subst (λ (l : ℕ). StandsFor p v l j) key h.stands), same.1)
+      (stands_once p by g.key i j g.stands (subst (λ (l : ℕ). StandsFor p v l j) key h.stands), same.1)
 
 module _ (v : View) (one_key : (s j k : ℕ) → Has v.keys (s, j) → Has v.keys (s, k) → j ≡ k) (one_place : (s t k : ℕ) → Has v.keys (s, k) → Has v.keys (t, k) → s ≡ t) where
   -- an attribute at a node with codes has one word
@@ -165,13 +179,12 @@ module _ (v : View) (one_key : (s j k : ℕ) → Has v.keys (s, j) → Has v.key
       let slot : g.0 ≡ h.0 = one_place g.0 h.0 g.1 g.2 (subst (λ (j : ℕ). Has v.keys (h.0, j)) word h.2) in
       g.6 ∙ ap (λ (s : ℕ). argument_word s c) slot ∙ sym h.6
 
-  module _ (p : Program) (pooled : ArePooled p.texts) where
+  module _ (p : Program) (pooled : ArePooled p.texts) (by : IsOpen p v.made) where
     -- the codes of an instance are one
     pub same_codes : (k l a : ℕ) (r : Reference) (xs : List Argument) (g : IsAttributeKey p v k a r xs) (h : IsAttributeKey p v l a r xs) → (g.node ≡ h.node) × (g.codes ≡ h.codes)
     same_codes k l a r xs g h =
-        let n = source_names (text_of p) in
-        let named = sources_named p in
-        (one_reference named g.node h.node (g.at n named ∙ sym (h.at n named)), one_list p pooled named (attribute_parameters p a) g.codes h.codes g.good h.good (g.arguments n named ∙ sym (h.arguments n named)))
+        let n = naming_by_makers p v.made in
+        (one_reference by.named g.node h.node (g.at n by ∙ sym (h.at n by)), one_list p pooled by.named (attribute_parameters p a) g.codes h.codes g.good h.good (g.arguments n by ∙ sym (h.arguments n by)))
 
     -- so an instance has one word
     pub word_once : (k l : ℕ) (i : Instance) → StandsFor p v k i → StandsFor p v l i → k ≡ l

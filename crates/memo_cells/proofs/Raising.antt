@@ -14,6 +14,7 @@ use Rattle.equation_law.proofs.Solution.{one}
 use Rattle.memo_cells.specs.declared.view.View.{View}
 use Rattle.memo_cells.specs.Showing.{ShowsAtLeast, ShowsAtMost}
 use Rattle.memo_cells.specs.Standing.{AreShown, ComesTo, IsLowerOf, IsShown, Knows, MayShow}
+use Rattle.memo_cells.proofs.Agreeing.{IsOpen}
 use Rattle.memo_cells.proofs.Showing.{not_both, shown_between}
 
 abbrev pub Rules : Program → Type 0
@@ -37,10 +38,10 @@ pub record Higher (p : Program) (T : Instance → Value) (i : Instance) (x : Val
   pub up : (j : Instance) → (equations_of p).circular j ≡ true → IsAtMost (T j) (values j)
   pub reaches : (equations_of p).circular i ≡ true → IsAtMost x (values i)
 
-module _ (p : Program) (r : Rules p) (u : Joins p) (v : View) (T : Instance → Value) (lower : IsLowerOf p T) (most : (j : Instance) → (equations_of p).circular j ≡ true → ShowsAtMost p v j (kind_in p j) (T j)) (all : AreSettledShown p v) where
+module _ (p : Program) (r : Rules p) (u : Joins p) (v : View) (T : Instance → Value) (lower : IsLowerOf p T) (most : (j : Instance) → (equations_of p).circular j ≡ true → ShowsAtMost p v j (kind_in p j) (T j)) (all : AreSettledShown p v) (by : IsOpen p v.made) where
   -- what is shown is at most T
   pub shown_below : (B : Instance → Value) → AreShown p v B → (j : Instance) → (equations_of p).circular j ≡ true → IsAtMost (B j) (T j)
-  shown_below B h j c = shown_between p v j (kind_in p j) (B j) (T j) (h j c).0 (shown_whole p v all j (B j) (h j c).1) (most j c)
+  shown_below B h j c = shown_between p v by j (kind_in p j) (B j) (T j) (h j c).0 (shown_whole p v all j (B j) (h j c).1) (most j c)
 
   comes_higher : (i : Instance) (x : Value) → (equations_of p).circular i ≡ true → ComesTo p v i x → Higher p T i x
   comes_higher i x c h =

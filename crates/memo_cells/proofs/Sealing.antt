@@ -13,7 +13,8 @@ use Rattle.solutions.proofs.Lower.{lower_below}
 use Rattle.attr_rules.specs.declared.kinds.Kind.{Kind}
 use Rattle.attr_rules.specs.declared.kinds.Kind.TheVariants as kinds
 use Rattle.attr_rules.specs.Rules.{is_single}
-use Rattle.equation_law.specs.Codes.{IsSmall, IsValueCode}
+use Rattle.equation_law.specs.declared.coding.Instance.{Instance as CodedInstance}
+use Rattle.equation_law.specs.Codes.{IsSmall}
 use Rattle.equation_law.specs.Equations.{HasValue, equations_of, kind_in}
 use Rattle.equation_law.specs.Loops.{fits_in, join_in, order_in}
 use Rattle.equation_law.specs.Names.{Instance}
@@ -27,6 +28,7 @@ use Rattle.equation_law.proofs.Solution.{are_joins, are_rising, have_heights, he
 use Rattle.memo_cells.specs.declared.keys.Slot.{Slot}
 use Rattle.memo_cells.specs.declared.view.Frame.{Frame}
 use Rattle.memo_cells.specs.declared.view.View.{View}
+use Rattle.memo_cells.specs.Agreeing.{IsKnownCode, IsValueCodeAt}
 use Rattle.memo_cells.specs.Keys.{is_set_word}
 use Rattle.memo_cells.specs.Naming.{StandsFor}
 use Rattle.memo_cells.specs.declared.learning.Step.TheVariants.{Value as LeftValue}
@@ -44,7 +46,7 @@ use Rattle.memo_cells.proofs.Facts.{pass_of, told_own}
 use Rattle.memo_cells.proofs.Learnt.{least_any, told_least, value_learnt, value_logged, value_told, values_said_has}
 use Rattle.memo_cells.proofs.Marking.{mark_high, mark_is, mark_low, none_after, number_of, place_is, slot_among, slot_left}
 use Rattle.memo_cells.proofs.Lifting.{may_seal_later}
-use Rattle.memo_cells.proofs.Meaning.{approximations, one_there, settled_shown, shown_at_most}
+use Rattle.memo_cells.proofs.Meaning.{approximations, by_words, one_there, settled_shown, shown_at_most}
 use Rattle.memo_cells.proofs.More.{at_least_itself, at_least_then}
 use Rattle.memo_cells.proofs.Naming.{knows_later, stands_later, stands_once, stands_plain, word_once}
 use Rattle.memo_cells.proofs.Places.{values_has}
@@ -73,7 +75,7 @@ marked_bit k x n plain low small e =
     let at : bit_at x 0 ≡ 1 = ap (bit_at x) (sym zero) ∙ e in
     ap (bit_at (x + 2 ^ 63)) zero ∙ omega (arith, before, after, at)
 
-module _ (f : Frame) (slot : ℕ) (us ks vs slots : List ℕ) (sealing : AreSealing f slots (slot ∷ us) ks vs) (has_slot : Has slots slot) where
+module _ (f : Frame) (ms : List CodedInstance) (slot : ℕ) (us ks vs slots : List ℕ) (sealing : AreSealing f ms slots (slot ∷ us) ks vs) (has_slot : Has slots slot) where
   abbrev p : Program
   p = program_of f.system.value
 
@@ -81,13 +83,13 @@ module _ (f : Frame) (slot : ℕ) (us ks vs slots : List ℕ) (sealing : AreSeal
   ts = slot ∷ us
 
   abbrev v : View
-  v = knows_all f ts ks vs
+  v = knows_all f ms ts ks vs
 
   abbrev ws : List ℕ
   ws = set vs slot (with_mark (get_or vs slot 0))
 
   abbrev w : View
-  w = knows_all f us ks ws
+  w = knows_all f ms us ks ws
 
   abbrev lk : length ks ≡ f.cells
   lk = sealing.keys
@@ -95,21 +97,21 @@ module _ (f : Frame) (slot : ℕ) (us ks vs slots : List ℕ) (sealing : AreSeal
   abbrev lv : length vs ≡ f.cells
   lv = sealing.long
 
-  abbrev o : AreWords f ts ks vs
+  abbrev o : AreWords f ms ts ks vs
   o = sealing.words
 
   abbrev may : MaySeal p f v slots
   may = sealing.may
 
   own : IsSeatOf f v ts
-  own = pass_of f ts ks vs lk lv o sealing.few
+  own = pass_of f ms ts ks vs lk lv o sealing.few
 
   -- the words show the values whole, since they do so of what is settled
   whole_shown : (j : Instance) → (equations_of p).circular j ≡ true → ShowsAtLeast p v j (kind_in p j) (may.values j)
-  whole_shown j c = shown_whole p v (settled_shown f ts ks vs lk lv o) j (may.values j) (may.shown j c).1
+  whole_shown j c = shown_whole p v (settled_shown f ms ts ks vs lk lv o) j (may.values j) (may.shown j c).1
 
   lower_shown : (j : Instance) → (equations_of p).circular j ≡ true → IsAtMost (may.values j) (o.values j)
-  lower_shown j c = shown_below p (are_rising p) (are_joins p) v o.values o.lower (λ i d. shown_at_most f ts ks vs lk lv o i (kind_in p i) refl d) (settled_shown f ts ks vs lk lv o) may.values may.shown j c
+  lower_shown j c = shown_below p (are_rising p) (are_joins p) v o.values o.lower (λ i d. shown_at_most f ms ts ks vs lk lv o i (kind_in p i) refl d) (settled_shown f ms ts ks vs lk lv o) (by_words f ms ts ks vs lk lv o) may.values may.shown j c
 
   lower_values : IsLowerOf p may.values
   lower_values = record {
@@ -154,13 +156,13 @@ module _ (f : Frame) (slot : ℕ) (us ks vs slots : List ℕ) (sealing : AreSeal
   pub slot_plain : is_set_word (get_or ks slot 0) ≡ false
   slot_plain =
       let cell = (may.stands slot has_slot).2 in
-      ap is_set_word (key_there f ts ks vs v refl slot cell.0 cell.1.1).2 ∙ stands_plain p v cell.0 (may.stands slot has_slot).0 cell.2
+      ap is_set_word (key_there f ms ts ks vs v refl slot cell.0 cell.1.1).2 ∙ stands_plain p v cell.0 (may.stands slot has_slot).0 cell.2
 
   here_plain : (q : ℕ) → q ≡ slot → is_set_word (get_or ks q 0) ≡ false
   here_plain q e = ap (λ y. is_set_word (get_or ks y 0)) e ∙ slot_plain
 
   sealed_more : IsAtLeast v w
-  sealed_more = kept_words f ts ks vs v refl us ws (length-set vs slot (with_mark (get_or vs slot 0)))
+  sealed_more = kept_words f ms ts ks vs v refl us ws (length-set vs slot (with_mark (get_or vs slot 0)))
       (λ q plain high. dite (ℕ_discrete q slot) (λ e. marked_high q e high) (λ ne. word_beside q ne))
       (λ q n low one. dite (ℕ_discrete q slot)
       (λ e. dite (dec_le (2 ^ 63) (get_or vs q 0)) (λ high. ap (λ (y : ℕ). bit_at y n) (marked_high q e high) ∙ one)
@@ -170,7 +172,7 @@ module _ (f : Frame) (slot : ℕ) (us ks vs slots : List ℕ) (sealing : AreSeal
   -- the word of a member that isn't sealed yet is 0, or 1 where it is raised
   module _ (i : Instance) (m : is_in (equations_of p).same may.set i ≡ true) (s k : ℕ) (stands : StandsFor p v k i) (there : Has v.keys (s, k)) (small : get_or vs s 0 < 2 ^ 63) where
     key : (k ≢ 0) × (s < length ks) × (get_or ks s 0 ≡ k)
-    key = key_there f ts ks vs v refl s k there
+    key = key_there f ms ts ks vs v refl s k there
 
     circular : (equations_of p).circular i ≡ true
     circular = (may.holds i m).is_circular
@@ -181,7 +183,7 @@ module _ (f : Frame) (slot : ℕ) (us ks vs slots : List ℕ) (sealing : AreSeal
         ⊎_elim (λ x. absurd (omega (arith, x.1, small)))
         (λ x.
         let raised : IsRaised p v o.values k = subst (λ (y : ℕ). IsRaised p v o.values y) key.2 x.1 in
-        let of : raised.of ≡ i = stands_once v (one_there f ts ks vs lk lv o) p k raised.of i raised.stands stands in
+        let of : raised.of ≡ i = stands_once v (one_there f ms ts ks vs lk lv o) p (by_words f ms ts ks vs lk lv o) k raised.of i raised.stands stands in
         (x.0, sym (ap (kind_in p) of) ∙ raised.kind, (at_least_lower i m).in_truth (subst (λ (j : Instance). truth (o.values j) ≡ true) of raised.is_true))
         )
         (o.ordered.coded s (omega (arith, key.1, lk)) (ap is_set_word key.2 ∙ stands_plain p v k i stands) nz)
@@ -190,7 +192,7 @@ module _ (f : Frame) (slot : ℕ) (us ks vs slots : List ℕ) (sealing : AreSeal
     not_raised : kind_in p i ≡ kinds.Truth → get_or vs s 0 ≡ 0 → truth (may.values i) ≡ true → ⊥
     not_raised kind z holds =
         let shows : ShowsTrue p v i = subst (λ (t : Kind). ShowsAtLeast p v i t (may.values i)) kind (whole_shown i circular) holds in
-        let word = word_once v own.one_key own.one_place p (texts_pooled f.system.value) shows.0 k i shows.2 stands in
+        let word = word_once v own.one_key own.one_place p (texts_pooled f.system.value) (by_words f ms ts ks vs lk lv o) shows.0 k i shows.2 stands in
         let t = has_bits ks vs 0 shows.1 shows.0 0 shows.3 in
         let same : shows.1 ≡ s = own.one_place shows.1 s k (subst (λ (y : ℕ). Has v.keys (shows.1, y)) word (own.keyed shows.1 shows.0 0 shows.3)) there in
         let at : t.0 ≡ s = omega (arith, t.3, same) in
@@ -201,7 +203,7 @@ module _ (f : Frame) (slot : ℕ) (us ks vs slots : List ℕ) (sealing : AreSeal
     unraised : (kind_in p i ≡ kinds.Truth → ⊥) → get_or vs s 0 ≡ 0
     unraised other = dite (ℕ_discrete (get_or vs s 0) 0) (λ z. z) (λ nz. absurd (other (raised_true nz).1))
 
-    coded_as : (t : Kind) → kind_in p i ≡ t → FitsKind t (may.values i) → (is_single t ≡ true → IsValueCode p t (get_or vs s 0) (as_kind t (may.values i))) × IsSmall t (get_or vs s 0)
+    coded_as : (t : Kind) → kind_in p i ≡ t → FitsKind t (may.values i) → (is_single t ≡ true → IsValueCodeAt p ms t (get_or vs s 0) (as_kind t (may.values i))) × IsSmall t (get_or vs s 0)
     coded_as kinds.Truth e fit =
         dite (ℕ_discrete (get_or vs s 0) 0)
         (λ z. ((λ _ n h. ap (λ (y : ℕ). Truth (not (eqb y 0))) z ∙ ap Truth (sym (is_false (truth (may.values i)) (not_raised e z)))), omega (arith, z)))
@@ -212,20 +214,29 @@ module _ (f : Frame) (slot : ℕ) (us ks vs slots : List ℕ) (sealing : AreSeal
     coded_as kinds.Texts e fit = ((λ single. absurd (not_both refl single)), unraised (λ kind. let bad = ap is_single (sym kind ∙ e) in not_both bad refl))
     coded_as (kinds.Nodes d) e fit = ((λ single. absurd (not_both refl single)), unraised (λ kind. let bad = ap is_single (sym kind ∙ e) in not_both bad refl))
 
+    -- what is circular is no node
+    no_node : (t : Kind) → FitsKind t (may.values i) → IsKnownCode ms t (get_or vs s 0)
+    no_node kinds.Truth fit = tt
+    no_node kinds.Int fit = elim fit [ ]
+    no_node kinds.Text fit = elim fit [ ]
+    no_node (kinds.Node d) fit = elim fit [ ]
+    no_node kinds.Texts fit = tt
+    no_node (kinds.Nodes d) fit = tt
+
     small_code : get_or vs s 0 < 2 ^ 32
     small_code = dite (ℕ_discrete (get_or vs s 0) 0) (λ z. omega (arith, z)) (λ nz. let r = raised_true nz in omega (arith, r.0))
 
-    abbrev code_of : IsCodeOf p i (get_or vs s 0)
+    abbrev code_of : IsCodeOf p ms i (get_or vs s 0)
     code_of =
         let both = coded_as (kind_in p i) refl (may.shown i circular).0 in
-        record { value = may.values i; has = has i m; coded = both.0; small = both.1; fits = small_code; elements = codes_had p v (approximations f ts ks vs lk lv o) i (may.values i) (kind_in p i) refl (whole_shown i circular) }
+        record { value = may.values i; has = has i m; coded = both.0; small = both.1; fits = small_code; known = no_node (kind_in p i) (may.shown i circular).0; elements = codes_had p v (approximations f ms ts ks vs lk lv o) i (may.values i) (kind_in p i) refl (whole_shown i circular) }
 
   -- what stands in the slot is settled now
   sealed_here : (q k : ℕ) → q ≡ slot → Has v.keys (q, k) → IsSealedAt w q k
   sealed_here q k e there =
       let high = mark_is (get_or vs q 0) in
       let word = word_here q e in
-      let key = key_there f ts ks vs v refl q k there in
+      let key = key_there f ms ts ks vs v refl q k there in
       (get_or ws q 0 - 2 ^ 63, values_has ks ws 0 q q k (get_or ws q 0 - 2 ^ 63) key.1 (omega (arith, long, lk, key.1)) key.2 (ap is_set_word (sym key.2) ∙ here_plain q e) (omega (arith, high, word)) (omega arith))
 
   known_here : (j : Instance) (q k : ℕ) → q ≡ slot → Has v.keys (q, k) → StandsFor p v k j → Knows p w j
@@ -272,16 +283,18 @@ module _ (f : Frame) (slot : ℕ) (us ks vs slots : List ℕ) (sealing : AreSeal
         };
         lower = λ c. lower_shown i c;
       } in
-      subst (λ (y : ℕ). IsFinal p w o.values y (get_or vs q 0)) (sym (key_there f ts ks vs v refl q cell.0 there).2) final
+      subst (λ (y : ℕ). IsFinal p w o.values y (get_or vs q 0)) (sym (key_there f ms ts ks vs v refl q cell.0 there).2) final
 
-  sealed_words : AreWords f us ks ws
+  sealed_words : AreWords f ms us ks ws
   sealed_words = record {
     bare = o.bare;
+    nothing = o.nothing;
+    trees = o.trees;
     values = o.values;
     lower = o.lower;
-    ordered = words_after f ts ks vs v refl p lk lv o.values o.ordered o.values us ws sealed_more all_safe (λ j c. at_most_itself (o.values j))
+    ordered = words_after f ms ts ks vs v refl p lk lv o.values o.ordered o.values us ws sealed_more all_safe (λ j c. at_most_itself (o.values j))
         (λ q lq nz. dite (ℕ_discrete q slot)
-        (λ e z. let cell = (may.stands slot has_slot).2 in let key = key_there f ts ks vs v refl slot cell.0 cell.1.1 in key.0 (sym key.2 ∙ ap (λ y. get_or ks y 0) (sym e) ∙ z))
+        (λ e z. let cell = (may.stands slot has_slot).2 in let key = key_there f ms ts ks vs v refl slot cell.0 cell.1.1 in key.0 (sym key.2 ∙ ap (λ y. get_or ks y 0) (sym e) ∙ z))
         (λ ne. o.ordered.keyed q lq (λ z. nz (word_beside q ne ∙ z))))
         (λ q lq plain nz. dite (ℕ_discrete q slot)
         (λ e. dite (dec_le (2 ^ 63) (get_or vs q 0)) (λ high. inl (marked_high q e high))
@@ -290,7 +303,7 @@ module _ (f : Frame) (slot : ℕ) (us ks vs slots : List ℕ) (sealing : AreSeal
         (λ q n lq st low one. dite (ℕ_discrete q slot) (λ e. absurd (not_both (here_plain q e) st)) (λ ne. inl (ap (λ (y : ℕ). bit_at y n) (sym (word_beside q ne)) ∙ one)));
   }
 
-  pub next_sealed : SealsOn f slots ts us ks vs ws
+  pub next_sealed : SealsOn f ms slots ts us ks vs ws
   next_sealed = record {
     sealing = record {
       few = sealing.few;
@@ -300,7 +313,7 @@ module _ (f : Frame) (slot : ℕ) (us ks vs slots : List ℕ) (sealing : AreSeal
       may = may_seal_later p v w sealed_more f slots may;
       each = λ q k h there. ⊎_elim (λ left. ⊎_elim (λ e. inr (sealed_here q k e there)) inl left) (λ c. inr (c.0, sealed_more.values q k c.0 c.1)) (sealing.each q k h there);
     };
-    own = pass_of f us ks ws lk long sealed_words sealing.few;
+    own = pass_of f ms us ks ws lk long sealed_words sealing.few;
     kept = sealed_more;
   }
 
@@ -309,71 +322,73 @@ module _ (f : Frame) (slot : ℕ) (us ks vs slots : List ℕ) (sealing : AreSeal
   slot_inside = let lt = slot_less in omega (arith, lv, lt)
 
 -- all slots of a set are noted first
-module _ (f : Frame) (ks vs : List ℕ) (lk : length ks ≡ f.cells) (lv : length vs ≡ f.cells) (few : f.cells ≤ 4194304) (o : AreWords f [] ks vs) (slots : List ℕ) where
+module _ (f : Frame) (ms : List CodedInstance) (ks vs : List ℕ) (lk : length ks ≡ f.cells) (lv : length vs ≡ f.cells) (few : f.cells ≤ 4194304) (o : AreWords f ms [] ks vs) (slots : List ℕ) where
   abbrev noting : View
-  noting = knows_all f slots ks vs
+  noting = knows_all f ms slots ks vs
 
   abbrev before : View
-  before = knows_all f [] ks vs
+  before = knows_all f ms [] ks vs
 
   pub noted_more : IsAtLeast before noting
-  noted_more = kept_words f [] ks vs before refl slots vs refl (λ q plain high. refl) (λ q n low one. one)
+  noted_more = kept_words f ms [] ks vs before refl slots vs refl (λ q plain high. refl) (λ q n low one. one)
 
-  noted_words : AreWords f slots ks vs
+  noted_words : AreWords f ms slots ks vs
   noted_words = record {
     bare = o.bare;
+    nothing = o.nothing;
+    trees = o.trees;
     values = o.values;
     lower = o.lower;
-    ordered = words_after f [] ks vs before refl (program_of f.system.value) lk lv o.values o.ordered o.values slots vs noted_more (safe_later (program_of f.system.value) before noting noted_more (λ s h. absurd h)) (λ j c. at_most_itself (o.values j))
+    ordered = words_after f ms [] ks vs before refl (program_of f.system.value) lk lv o.values o.ordered o.values slots vs noted_more (safe_later (program_of f.system.value) before noting noted_more (λ s h. absurd h)) (λ j c. at_most_itself (o.values j))
         (λ q lq nz. o.ordered.keyed q lq nz) (λ q lq plain nz. inl refl) (λ q n lq st low one. inl one);
   }
 
-  pub all_noted : MaySeal (program_of f.system.value) f before slots → AreSealing f slots slots ks vs
+  pub all_noted : MaySeal (program_of f.system.value) f before slots → AreSealing f ms slots slots ks vs
   all_noted may = record { few = few; keys = lk; long = lv; words = noted_words; may = may_seal_later (program_of f.system.value) before noting noted_more f slots may; each = λ s k h there. inl h }
 
 -- and none is left at the end
-pub none_left : (f : Frame) (slots ks vs : List ℕ) → AreSealing f slots [] ks vs → (s k : ℕ) → Has slots s → Has (knows_all f [] ks vs).keys (s, k) → IsSealedAt (knows_all f [] ks vs) s k
-none_left f slots ks vs s q k h there = ⊎_elim (λ left. absurd left) (λ c. c) (s.each q k h there)
+pub none_left : (f : Frame) (ms : List CodedInstance) (slots ks vs : List ℕ) → AreSealing f ms slots [] ks vs → (s k : ℕ) → Has slots s → Has (knows_all f ms [] ks vs).keys (s, k) → IsSealedAt (knows_all f ms [] ks vs) s k
+none_left f ms slots ks vs s q k h there = ⊎_elim (λ left. absurd left) (λ c. c) (s.each q k h there)
 
 -- as a pass sees it whose words these are
-module _ (f : Frame) (ks vs : List ℕ) (lk : length ks ≡ f.cells) (lv : length vs ≡ f.cells) (o : AreWords f [] ks vs) (v : View) (told : IsTold f ks vs v) (g : Frame) (own : IsPassOf g v) (slots : List Slot) (may : MaySeal (program_of g.system.value) g v (places slots)) where
+module _ (f : Frame) (ms : List CodedInstance) (ks vs : List ℕ) (lk : length ks ≡ f.cells) (lv : length vs ≡ f.cells) (o : AreWords f ms [] ks vs) (v : View) (told : IsTold f ms ks vs v) (g : Frame) (own : IsPassOf g v) (slots : List Slot) (may : MaySeal (program_of g.system.value) g v (places slots)) where
   same : f ≡ g
   same = let e : Some f ≡ Some g = sym told.frame ∙ own.frame in cc
 
-  its : MaySeal (program_of f.system.value) f (knows_all f [] ks vs) (places slots)
-  its = may_seal_later (program_of f.system.value) v (knows_all f [] ks vs) (told_least f ks vs v told []) f (places slots) (subst (λ (h : Frame). MaySeal (program_of h.system.value) h v (places slots)) (sym same) may)
+  its : MaySeal (program_of f.system.value) f (knows_all f ms [] ks vs) (places slots)
+  its = may_seal_later (program_of f.system.value) v (knows_all f ms [] ks vs) (told_least f ms ks vs v told []) f (places slots) (subst (λ (h : Frame). MaySeal (program_of h.system.value) h v (places slots)) (sym same) may)
 
   its_few : f.cells ≤ 4194304
   its_few = subst (λ (h : Frame). h.cells ≤ 4194304) (sym same) own.few
 
-  pub set_noted : AreSealing g (places slots) (places slots) ks vs
-  set_noted = subst (λ (h : Frame). AreSealing h (places slots) (places slots) ks vs) same (all_noted f ks vs lk lv its_few o (places slots) its)
+  pub set_noted : AreSealing g ms (places slots) (places slots) ks vs
+  set_noted = subst (λ (h : Frame). AreSealing h ms (places slots) (places slots) ks vs) same (all_noted f ms ks vs lk lv its_few o (places slots) its)
 
-  pub set_told : IsTold g ks vs v
-  set_told = subst (λ (h : Frame). IsTold h ks vs v) same told
+  pub set_told : IsTold g ms ks vs v
+  set_told = subst (λ (h : Frame). IsTold h ms ks vs v) same told
 
-  module _ (ws : List ℕ) (on : SealsAll g slots ks vs ws) (w : View) (sealed : TellsSealed g slots (length slots) ks ws v w) where
-    pub mark_words : AreWords f [] ks ws
-    mark_words = subst (λ (h : Frame). AreWords h [] ks ws) (sym same) on.sealing.words
+  module _ (ws : List ℕ) (on : SealsAll g ms slots ks vs ws) (w : View) (sealed : TellsSealed g ms slots (length slots) ks ws v w) where
+    pub mark_words : AreWords f w.made [] ks ws
+    mark_words = subst (λ (l : List CodedInstance). AreWords f l [] ks ws) (sym sealed.told.made) (subst (λ (h : Frame). AreWords h ms [] ks ws) (sym same) on.sealing.words)
 
     pub mark_long : length ws ≡ f.cells
     mark_long = subst (λ (h : Frame). length ws ≡ h.cells) (sym same) on.sealing.long
 
-    pub mark_told : IsTold f ks ws w
-    mark_told = subst (λ (h : Frame). IsTold h ks ws w) (sym same) sealed.told
+    pub mark_told : IsTold f w.made ks ws w
+    mark_told = subst (λ (l : List CodedInstance). IsTold f l ks ws w) (sym sealed.told.made) (subst (λ (h : Frame). IsTold h ms ks ws w) (sym same) sealed.told)
 
     pub mark_own : IsPassOf g w
-    mark_own = told_own g ks ws on.sealing.keys on.sealing.long on.sealing.words own.few w sealed.told
+    mark_own = told_own g ms ks ws on.sealing.keys on.sealing.long on.sealing.words own.few w sealed.told
 
     pub mark_sealed : AreSealed v w (places slots)
     mark_sealed s k among there = let n = number_of slots s among in sealed.sealed n.0 s k n.1 n.2 there
 
 -- none of them is sealed yet, and one more
-pub tells_none : (f : Frame) (slots : List Slot) (ks vs : List ℕ) (v : View) → IsTold f ks vs v → TellsSealed f slots 0 ks vs v v
-tells_none f slots ks vs v told = record { told = told; kept = at_least_itself v; log = log_itself v; sealed = λ n s k lt. absurd (omega (arith, lt)); claims = refl }
+pub tells_none : (f : Frame) (ms : List CodedInstance) (slots : List Slot) (ks vs : List ℕ) (v : View) → IsTold f ms ks vs v → TellsSealed f ms slots 0 ks vs v v
+tells_none f ms slots ks vs v told = record { told = told; kept = at_least_itself v; log = log_itself v; sealed = λ n s k lt. absurd (omega (arith, lt)); claims = refl }
 
-pub tells_more : (f : Frame) (slots : List Slot) (n : ℕ) (ks vs ws : List ℕ) (v w x : View) → TellsSealed f slots n ks vs v w → TellsNext f slots n ks ws w x → TellsSealed f slots (n + 1) ks ws v x
-tells_more f slots n ks vs ws v w x before next = record {
+pub tells_more : (f : Frame) (ms : List CodedInstance) (slots : List Slot) (n : ℕ) (ks vs ws : List ℕ) (v w x : View) → TellsSealed f ms slots n ks vs v w → TellsNext f ms slots n ks ws w x → TellsSealed f ms slots (n + 1) ks ws v x
+tells_more f ms slots n ks vs ws v w x before next = record {
   told = next.told;
   kept = at_least_then before.kept next.kept;
   log = log_then before.log next.log;
@@ -384,49 +399,49 @@ tells_more f slots n ks vs ws v w x before next = record {
 }
 
 -- the next slot of a set gets its mark
-module _ (f : Frame) (slots : List Slot) (n : ℕ) (ks vs : List ℕ) (d : Slot) (lt : n < length slots) (s : AreSealedTo f slots n ks vs) where
+module _ (f : Frame) (ms : List CodedInstance) (slots : List Slot) (n : ℕ) (ks vs : List ℕ) (d : Slot) (lt : n < length slots) (s : AreSealedTo f ms slots n ks vs) where
   abbrev next : Slot
   next = get_or slots n d
 
-  left_now : AreSealing f (places slots) (next.0 ∷ places_left (suc n) slots) ks vs
-  left_now = subst (λ (l : List ℕ). AreSealing f (places slots) l ks vs) (slot_left slots n d lt) s
+  left_now : AreSealing f ms (places slots) (next.0 ∷ places_left (suc n) slots) ks vs
+  left_now = subst (λ (l : List ℕ). AreSealing f ms (places slots) l ks vs) (slot_left slots n d lt) s
 
   pub next_inside : next.0 < length vs
-  next_inside = slot_inside f next.0 (places_left (suc n) slots) ks vs (places slots) left_now (slot_among slots n d lt)
+  next_inside = slot_inside f ms next.0 (places_left (suc n) slots) ks vs (places slots) left_now (slot_among slots n d lt)
 
-  on_next : SealsTo f slots n (n + 1) ks vs (set vs next.0 (with_mark (get_or vs next.0 0)))
+  on_next : SealsTo f ms slots n (n + 1) ks vs (set vs next.0 (with_mark (get_or vs next.0 0)))
   on_next =
       let one_more : suc n ≡ n + 1 = omega arith in
-      subst (λ (y : List ℕ × ℕ). SealsOn f (places slots) y.0 (places_left y.1 slots) ks vs (set vs next.0 (with_mark (get_or vs next.0 0)))) (λ i. (sym (slot_left slots n d lt) i, one_more i))
-      (next_sealed f next.0 (places_left (suc n) slots) ks vs (places slots) left_now (slot_among slots n d lt))
+      subst (λ (y : List ℕ × ℕ). SealsOn f ms (places slots) y.0 (places_left y.1 slots) ks vs (set vs next.0 (with_mark (get_or vs next.0 0)))) (λ i. (sym (slot_left slots n d lt) i, one_more i))
+      (next_sealed f ms next.0 (places_left (suc n) slots) ks vs (places slots) left_now (slot_among slots n d lt))
 
-  pub next_marked : (place found word : ℕ) → place ≡ next.0 → found ≡ get_or vs place found → word ≡ with_mark found → SealsTo f slots n (n + 1) ks vs (set vs place word)
+  pub next_marked : (place found word : ℕ) → place ≡ next.0 → found ≡ get_or vs place found → word ≡ with_mark found → SealsTo f ms slots n (n + 1) ks vs (set vs place word)
   next_marked place found word e seen is =
       let inside_now = next_inside in
       let here_now : found ≡ get_or vs next.0 0 = seen ∙ sym (read_at vs place found (omega (arith, e, inside_now))) ∙ ap (λ y. get_or vs y 0) e in
       let marked : word ≡ with_mark (get_or vs next.0 0) = is ∙ ap with_mark here_now in
-      subst (λ (y : ℕ × ℕ). SealsTo f slots n (n + 1) ks vs (set vs y.0 y.1)) (λ i. (sym e i, sym marked i)) on_next
+      subst (λ (y : ℕ × ℕ). SealsTo f ms slots n (n + 1) ks vs (set vs y.0 y.1)) (λ i. (sym e i, sym marked i)) on_next
 
   -- and the pass knows it
   next_plain : is_set_word (get_or ks next.0 0) ≡ false
-  next_plain = slot_plain f next.0 (places_left (suc n) slots) ks vs (places slots) left_now (slot_among slots n d lt)
+  next_plain = slot_plain f ms next.0 (places_left (suc n) slots) ks vs (places slots) left_now (slot_among slots n d lt)
 
-  pub next_told : (v : View) → IsTold f ks vs v → (place found word : ℕ) → place ≡ next.0 → found ≡ get_or vs place found → word ≡ with_mark found → TellsNext f slots n ks (set vs place word) v (after v (LeftValue place found word))
+  pub next_told : (v : View) → IsTold f ms ks vs v → (place found word : ℕ) → place ≡ next.0 → found ≡ get_or vs place found → word ≡ with_mark found → TellsNext f ms slots n ks (set vs place word) v (after v (LeftValue place found word))
   next_told v told place found word e seen is =
       let inside_now = next_inside in
       let lw : place < length vs = omega (arith, e, inside_now) in
       let keys = s.keys in
       let long = s.long in
       let high = mark_is found in
-      let more = least_any f (places_left n slots) (places_left (n + 1) slots) ks vs (set vs place word) (next_marked place found word e seen is).kept in
+      let more = least_any f ms (places_left n slots) (places_left (n + 1) slots) ks vs (set vs place word) (next_marked place found word e seen is).kept in
       record {
-        told = value_told f ks vs v told place found word (set vs place word) (omega (arith, lw, keys, long)) (omega (arith, lw, length-set vs place word)) (get_or-set_same vs place word 0 lw) more;
+        told = value_told f ms ks vs v told place found word (set vs place word) (omega (arith, lw, keys, long)) (omega (arith, lw, length-set vs place word)) (get_or-set_same vs place word 0 lw) more;
         kept = value_learnt v place found word;
         log = log_one refl;
         sealed = λ t k at there.
             let here : t ≡ place = place_is slots n d t at ∙ sym e in
             let known : Has v.keys (place, k) = subst (λ (q : ℕ). Has v.keys (q, k)) here there in
-            let key = key_there f [] ks vs (knows_all f [] ks vs) refl place k (told.keys place k known) in
+            let key = key_there f ms [] ks vs (knows_all f ms [] ks vs) refl place k (told.keys place k known) in
             let plain : is_set_word k ≡ false = ap is_set_word (sym key.2 ∙ ap (λ y. get_or ks y 0) e) ∙ next_plain in
             (word - 2 ^ 63, subst (λ (q : ℕ). Has (after v (LeftValue place found word)).values (q, k, word - 2 ^ 63)) (sym here) (has_left (values_said place word v.keys) v.values (place, k, word - 2 ^ 63) (values_said_has place word k v.keys known (omega (arith, is, high)) plain)));
         claims = refl;
@@ -440,14 +455,14 @@ next_found f slots n vs d v is place found word e seen s x at there =
     subst (λ (y : ℕ × ℕ). LogsValue f v (after v (LeftValue place found word)) y.0 y.1) (λ i. (here i, same i)) (value_logged v place found word is)
 
 -- from none to all of them
-pub seals_none : (f : Frame) (slots left ks vs : List ℕ) → AreSealing f slots left ks vs → SealsOn f slots left left ks vs vs
-seals_none f slots left ks vs s = record { sealing = s; own = pass_of f left ks vs s.keys s.long s.words s.few; kept = at_least_itself (knows_all f left ks vs) }
+pub seals_none : (f : Frame) (ms : List CodedInstance) (slots left ks vs : List ℕ) → AreSealing f ms slots left ks vs → SealsOn f ms slots left left ks vs vs
+seals_none f ms slots left ks vs s = record { sealing = s; own = pass_of f ms left ks vs s.keys s.long s.words s.few; kept = at_least_itself (knows_all f ms left ks vs) }
 
-pub seals_then : (f : Frame) (slots l m n ks us vs xs : List ℕ) → SealsOn f slots l m ks us vs → SealsOn f slots m n ks vs xs → SealsOn f slots l n ks us xs
-seals_then f slots l m n ks us vs xs a b = record { sealing = b.sealing; own = b.own; kept = at_least_then a.kept b.kept }
+pub seals_then : (f : Frame) (ms : List CodedInstance) (slots l m n ks us vs xs : List ℕ) → SealsOn f ms slots l m ks us vs → SealsOn f ms slots m n ks vs xs → SealsOn f ms slots l n ks us xs
+seals_then f ms slots l m n ks us vs xs a b = record { sealing = b.sealing; own = b.own; kept = at_least_then a.kept b.kept }
 
-pub seals_all : (f : Frame) (slots : List Slot) (ks us vs : List ℕ) → SealsTo f slots 0 (length slots) ks us vs → SealsAll f slots ks us vs
-seals_all f slots ks us vs s = subst (λ (l : List ℕ). SealsOn f (places slots) (places slots) l ks us vs) (none_after slots) s
+pub seals_all : (f : Frame) (ms : List CodedInstance) (slots : List Slot) (ks us vs : List ℕ) → SealsTo f ms slots 0 (length slots) ks us vs → SealsAll f ms slots ks us vs
+seals_all f ms slots ks us vs s = subst (λ (l : List ℕ). SealsOn f ms (places slots) (places slots) l ks us vs) (none_after slots) s
 
 -- with nothing left, all that a settled cell demands is seen settled
 pub closed_back : (p : Program) (f : Frame) (v : View) → IsPassOf f v → (k c : ℕ) → IsSettled p v k c → IsSettledBy p v (λ i j. Knows p v j) k c

@@ -7,12 +7,13 @@ use Rattle.attr_rules.specs.declared.kinds.Kind.{Kind}
 use Rattle.attr_rules.specs.declared.kinds.Kind.TheVariants as kinds
 use Rattle.attr_rules.specs.Rules.{is_single}
 use Rattle.rag_io.specs.Pool.{ArePooled}
+use Rattle.equation_law.specs.declared.coding.Instance.{Instance as CodedInstance}
 use Rattle.equation_law.specs.Equations.{kind_in}
-use Rattle.equation_law.specs.Keys.{IsElementCode}
 use Rattle.equation_law.specs.Names.{Instance}
 use Rattle.equation_law.specs.Program.{Program}
 use Rattle.memo_cells.specs.declared.view.Frame.{Frame}
 use Rattle.memo_cells.specs.declared.view.View.{View}
+use Rattle.memo_cells.specs.Agreeing.{IsElementAt}
 use Rattle.memo_cells.specs.Keys.{set_word}
 use Rattle.memo_cells.specs.Naming.{IsCellOf, IsFormed, IsWordOf, StandsFor}
 use Rattle.memo_cells.specs.Showing.{IsWordSeen, ShowsCode, ShowsTrue}
@@ -20,26 +21,27 @@ use Rattle.memo_cells.specs.Standing.{HasWord, IsPassOf, MayAdd, MayRaiseSet, Ma
 use Rattle.memo_cells.specs.Steps.{BitsAdded, BitsSeen}
 use Rattle.memo_cells.specs.Views.{Has, IsAtLeast, IsNowhere}
 use Rattle.memo_cells.proofs.Adding.{bit_of_one}
-use Rattle.memo_cells.proofs.Lifting.{may_show_later}
+use Rattle.memo_cells.proofs.Agreeing.{IsOpen}
+use Rattle.memo_cells.proofs.Lifting.{elements_later, may_show_later}
 use Rattle.memo_cells.proofs.Meaning.{set_bits, some_bits}
 use Rattle.memo_cells.proofs.Naming.{set_is_word, stands_later, stands_once, word_later, word_once}
 use Rattle.memo_cells.proofs.Showing.{not_both}
 use Rattle.memo_cells.proofs.ValueWords.{word_seen, word_unseen}
 
 -- a type that has elements is that of a set
-pub element_set : (p : Program) (k : Kind) (c : ℕ) → IsElementCode p k c → is_single k ≡ false
-element_set p kinds.Truth c h = absurd h
-element_set p kinds.Int c h = absurd h
-element_set p kinds.Text c h = absurd h
-element_set p (kinds.Node d) c h = absurd h
-element_set p kinds.Texts c h = refl
-element_set p (kinds.Nodes d) c h = refl
+pub element_set : (p : Program) (ms : List CodedInstance) (k : Kind) (c : ℕ) → IsElementAt p ms k c → is_single k ≡ false
+element_set p ms kinds.Truth c h = absurd h
+element_set p ms kinds.Int c h = absurd h
+element_set p ms kinds.Text c h = absurd h
+element_set p ms (kinds.Node d) c h = absurd h
+element_set p ms kinds.Texts c h = refl
+element_set p ms (kinds.Nodes d) c h = refl
 
-module _ (p : Program) (f : Frame) (v : View) (own : IsPassOf f v) (pooled : ArePooled p.texts) (i : Instance) (slot : ℕ) (cell : IsCellOf p f v i slot) where
+module _ (p : Program) (f : Frame) (v : View) (own : IsPassOf f v) (pooled : ArePooled p.texts) (by : IsOpen p v.made) (i : Instance) (slot : ℕ) (cell : IsCellOf p f v i slot) where
   -- the cell of an instance has one place and key
   one_cell : (k s : ℕ) → StandsFor p v k i → Has v.keys (s, k) → (k ≡ cell.0) × (s ≡ slot)
   one_cell k s stands there =
-      let key = word_once v own.one_key own.one_place p pooled k cell.0 i stands cell.2 in
+      let key = word_once v own.one_key own.one_place p pooled by k cell.0 i stands cell.2 in
       (key, own.one_place s slot cell.0 (subst (λ (y : ℕ). Has v.keys (s, y)) key there) cell.1.1)
 
   -- that of a truth value
@@ -72,10 +74,10 @@ module _ (p : Program) (f : Frame) (v : View) (own : IsPassOf f v) (pooled : Are
   pub set_seen : (u : View) (w x place : ℕ) → is_single (kind_in p i) ≡ false → slot < 2 ^ 29 → w < 2 ^ 32 → Has u.keys (place, set_word slot w) → Has v.keys (place, set_word slot w) → BitsSeen p u v place x → IsWordSeen p v i (kind_in p i) w x
   set_seen u w x place set low small before after seen =
       by_set (kind_in p i) w x set
-      (word_seen p v own.one_key own.one_place own.keyed pooled (set_word slot w) i w x place (word_key w low small) after (λ n few e. seen.all (set_word slot w) n before (set_bits (set_word slot w) n (set_is_word slot w low small) few) e) (λ n h. seen.only (set_word slot w) n h))
+      (word_seen p v own.one_key own.one_place own.keyed pooled by (set_word slot w) i w x place (word_key w low small) after (λ n few e. seen.all (set_word slot w) n before (set_bits (set_word slot w) n (set_is_word slot w low small) few) e) (λ n h. seen.only (set_word slot w) n h))
 
   pub none_seen : (w : ℕ) → is_single (kind_in p i) ≡ false → slot < 2 ^ 29 → w < 2 ^ 32 → IsNowhere v (set_word slot w) → IsWordSeen p v i (kind_in p i) w 0
-  none_seen w set low small nowhere = by_set (kind_in p i) w 0 set (word_unseen p v own.one_key own.one_place own.keyed pooled (set_word slot w) i w (word_key w low small) nowhere)
+  none_seen w set low small nowhere = by_set (kind_in p i) w 0 set (word_unseen p v own.one_key own.one_place own.keyed pooled by (set_word slot w) i w (word_key w low small) nowhere)
 
 -- some bit of a number that isn't 0 is set
 pub some_bit : (x : ℕ) → x ≢ 0 → x < 2 ^ 64 → (b : ℕ) × (b < 64) × (bit_at x b ≡ 1)
@@ -93,7 +95,7 @@ module _ (p : Program) (f : Frame) (u : View) where
 
   -- what is raised is a set
   pub raised_kind : (slot w bits : ℕ) → bits ≢ 0 → bits < 2 ^ 64 → (may : MayRaiseSet p u slot w bits) → is_single (kind_in p may.of) ≡ false
-  raised_kind slot w bits nz fits may = let b = some_bit bits nz fits in element_set p (kind_in p may.of) (64 * w + b.0) (may.elements b.0 b.1 b.2).0
+  raised_kind slot w bits nz fits may = let b = some_bit bits nz fits in element_set p u.made (kind_in p may.of) (64 * w + b.0) (may.elements b.0 b.1 b.2).0
 
   module _ (v : View) (kept : IsAtLeast u v) where
     pub may_add : (slot w bits place : ℕ) → slot < 2 ^ 29 → w < 2 ^ 32 → MayRaiseSet p u slot w bits → Has v.keys (place, set_word slot w) → MayAdd p v place bits
@@ -105,19 +107,19 @@ module _ (p : Program) (f : Frame) (u : View) where
       is = word_later u v kept p (set_word slot w) may.of w (word_of_raised slot w bits low small may);
       value = may.value;
       may = may_show_later p u v kept may.of may.value may.may;
-      elements = may.elements;
+      elements = elements_later p u v kept may.of may.value w bits may.elements;
     }
 
-    module _ (own : IsPassOf f v) (pooled : ArePooled p.texts) where
+    module _ (own : IsPassOf f v) (pooled : ArePooled p.texts) (by : IsOpen p v.made) where
       -- the instance of a slot stays the same
       pub same_there : (slot k : ℕ) (i j : Instance) → Has u.keys (slot, k) → StandsFor p u k j → IsCellOf p f v i slot → i ≡ j
       same_there slot k i j there stands cell =
           let key = own.one_key slot cell.0 k cell.1.1 (kept.keys slot k there) in
-          stands_once v own.one_key p k i j (subst (λ (y : ℕ). StandsFor p v y i) key cell.2) (stands_later u v kept p k j stands)
+          stands_once v own.one_key p by k i j (subst (λ (y : ℕ). StandsFor p v y i) key cell.2) (stands_later u v kept p k j stands)
 
       pub has_truth : (slot x : ℕ) → MayRaiseTruth p u slot → BitsAdded p u v slot 1 x → HasWord p f v slot 0 1 (x % 2)
       has_truth slot x may added = record {
-        seen = λ i cell. let same = same_there slot may.key i may.of may.here may.stands cell in truth_seen p f v own pooled i slot cell u 0 x (ap (kind_in p) same ∙ may.kind) added.seen;
+        seen = λ i cell. let same = same_there slot may.key i may.of may.here may.stands cell in truth_seen p f v own pooled by i slot cell u 0 x (ap (kind_in p) same ∙ may.kind) added.seen;
         added = λ b e.
             let zero = bit_of_one b e in
             let low = bit_at_lowest x in
@@ -130,6 +132,6 @@ module _ (p : Program) (f : Frame) (u : View) where
       has_set t slot w bits place x low small nz fits may there more added = record {
         seen = λ i cell.
             let same = same_there slot may.key i may.of may.here may.stands cell in
-            set_seen p f v own pooled i slot cell t w x place (ap (λ (j : Instance). is_single (kind_in p j)) same ∙ raised_kind slot w bits nz fits may) low small there (more.keys place (set_word slot w) there) added.seen;
+            set_seen p f v own pooled by i slot cell t w x place (ap (λ (j : Instance). is_single (kind_in p j)) same ∙ raised_kind slot w bits nz fits may) low small there (more.keys place (set_word slot w) there) added.seen;
         added = added.added;
       }

@@ -7,17 +7,18 @@ use Rattle.std.specs.List.{slice_get}
 use Rattle.std.proofs.lemmas.Nat.Bits.{bit_at-zero}
 use Rattle.attr_rules.specs.Rules.{is_single}
 use Rattle.equation_law.specs.Equations.{kind_in}
-use Rattle.equation_law.specs.Keys.{HasCode, IsElementCode}
 use Rattle.equation_law.specs.Names.{Instance}
 use Rattle.equation_law.specs.Program.{Program}
 use Rattle.equation_law.specs.Systems.{program_of}
 use Rattle.memo_cells.specs.declared.view.Frame.{Frame}
 use Rattle.memo_cells.specs.declared.view.View.{View}
+use Rattle.memo_cells.specs.Agreeing.{HasCodeAt, IsElementAt}
 use Rattle.memo_cells.specs.Keys.{set_word}
 use Rattle.memo_cells.specs.Showing.{ShowsCode}
 use Rattle.memo_cells.specs.Standing.{HasWord, IsPassOf, MayRaise}
 use Rattle.memo_cells.specs.Views.{ClaimsOnly, Has, IsAtLeast, IsFull}
 use Rattle.memo_cells.specs.Working.{GoesOn, Held, IsOwn, program_at}
+use Rattle.memo_cells.proofs.Agreeing.{element_later, has_code_later}
 use Rattle.memo_cells.proofs.Holding.{goes_itself, goes_then, own_then}
 use Rattle.memo_cells.proofs.Lifting.{may_show_later}
 use Rattle.memo_cells.proofs.Naming.{cell_later, word_later}
@@ -58,7 +59,7 @@ has_fits (y ∷ xs) x fits h = ⊎_elim (λ e. let low : y < 2 ^ 32 = Fits-lt-po
 
 -- what may be shown, later
 may_later : (p : Program) (f : Frame) (v w : View) → IsAtLeast v w → (i : Instance) (place : ℕ) (codes : List ℕ) → MayShowAll p f v i place codes → MayShowAll p f w i place codes
-may_later p f v w kept i place codes h = record { cell = cell_later v w kept p f i place h.cell; instance = h.instance; value = h.value; may = may_show_later p v w kept i h.value h.may; elements = h.elements }
+may_later p f v w kept i place codes h = record { cell = cell_later v w kept p f i place h.cell; instance = h.instance; value = h.value; may = may_show_later p v w kept i h.value h.may; elements = λ c among. let it = h.elements c among in (element_later p kept.made (kind_in p i) c it.0, has_code_later p kept.made (kind_in p i) h.value c it.1) }
 
 with_later : (p : Program) (v w : View) → IsAtLeast v w → (i : Instance) (codes : List ℕ) (k : ℕ) → IsWordWith p v i codes k → IsWordWith p w i codes k
 with_later p v w kept i codes k h = record { word = h.word; key = word_later v w kept p k i h.word h.key; code = h.code; among = h.among; lies = h.lies }
@@ -89,12 +90,12 @@ module _ (codes rest : List ℕ) (part : (c : ℕ) → Has rest c → Has codes 
           let lies = lies_in c.0 c.1 in
           let bit = c.2 in
           let at : c.0 ≡ 64 * (x / 64) + b = omega (arith, lies, bit) in
-          subst (λ (y : ℕ). IsElementCode p (kind_in p i) y × HasCode p (kind_in p i) all.value y) at (all.elements c.0 (part c.0 (take_has rest count c.0 c.1)));
+          subst (λ (y : ℕ). IsElementAt p v.made (kind_in p i) y × HasCodeAt p v.made (kind_in p i) all.value y) at (all.elements c.0 (part c.0 (take_has rest count c.0 c.1)));
     })
 
     -- it is the word of a set
     kind_set : is_single (kind_in p i) ≡ false
-    kind_set = element_set p (kind_in p i) x (all.elements x (part x (take_has rest count x x_first))).0
+    kind_set = element_set p v.made (kind_in p i) x (all.elements x (part x (take_has rest count x x_first))).0
 
     pub key_with : x < 2 ^ 32 → IsPassOf f v → IsWordWith p v i codes (set_word place (x / 64))
     key_with small own = record {

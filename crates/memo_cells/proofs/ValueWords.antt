@@ -9,29 +9,28 @@ use Rattle.attr_rules.specs.declared.kinds.Kind.TheVariants as kinds
 use Rattle.attr_rules.specs.Rules.{is_single}
 use Rattle.rag_io.specs.Pool.{ArePooled}
 use Rattle.rag_io.proofs.Numbers.{same_number}
-use Rattle.equation_law.specs.Codes.{IsReference}
 use Rattle.equation_law.specs.Equations.{HasValue, equations_of, kind_in}
-use Rattle.equation_law.specs.Keys.{HasCode, IsElementCode}
 use Rattle.equation_law.specs.Loops.{fits_in, join_in, order_in}
 use Rattle.equation_law.specs.Names.{At, Instance, Null, Reference}
 use Rattle.equation_law.specs.Program.{Program, text_of}
 use Rattle.equation_law.specs.Values.{Value, has_node, nodes}
 use Rattle.equation_law.proofs.Solution.{are_joins, are_rising, one}
-use Rattle.equation_law.proofs.Tied.{has_tied, one_tied_code}
 use Rattle.memo_cells.specs.declared.view.View.{View}
+use Rattle.memo_cells.specs.Agreeing.{HasCodeAt, HaveCodesAt, IsElementAt, IsReferenceAt}
 use Rattle.memo_cells.specs.Keys.{set_word}
 use Rattle.memo_cells.specs.Naming.{IsWordOf}
 use Rattle.memo_cells.specs.Showing.{IsWordSeen, ShowsAtLeast, ShowsAtMost, ShowsCode}
-use Rattle.memo_cells.specs.Standing.{AreApproximations, HaveCodes, IsWordOfValue}
+use Rattle.memo_cells.specs.Standing.{AreApproximations, IsWordOfValue}
 use Rattle.memo_cells.specs.Views.{Has, IsNowhere}
+use Rattle.memo_cells.proofs.Agreeing.{IsOpen, has_stands, one_code}
 use Rattle.memo_cells.proofs.Naming.{word_once}
 use Rattle.memo_cells.proofs.Showing.{has_code_more, not_both}
 
-module _ (p : Program) (v : View) (one_key : (s j k : ℕ) → Has v.keys (s, j) → Has v.keys (s, k) → j ≡ k) (one_place : (s t k : ℕ) → Has v.keys (s, k) → Has v.keys (t, k) → s ≡ t) (keyed : (s k n : ℕ) → Has v.bits (s, k, n) → Has v.keys (s, k)) (pooled : ArePooled p.texts) where
+module _ (p : Program) (v : View) (one_key : (s j k : ℕ) → Has v.keys (s, j) → Has v.keys (s, k) → j ≡ k) (one_place : (s t k : ℕ) → Has v.keys (s, k) → Has v.keys (t, k) → s ≡ t) (keyed : (s k n : ℕ) → Has v.bits (s, k, n) → Has v.keys (s, k)) (pooled : ArePooled p.texts) (by : IsOpen p v.made) where
   -- a word of a set has one key
   pub one_word_key : (k l : ℕ) (i : Instance) (w : ℕ) → IsWordOf p v k i w → IsWordOf p v l i w → k ≡ l
   one_word_key k l i w g h =
-      let key : g.key ≡ h.key = word_once v one_key one_place p pooled g.key h.key i g.stands h.stands in
+      let key : g.key ≡ h.key = word_once v one_key one_place p pooled by g.key h.key i g.stands h.stands in
       let slot : g.slot ≡ h.slot = one_place g.slot h.slot h.key (subst (λ (y : ℕ). Has v.keys (g.slot, y)) key g.there) h.there in
       g.is ∙ ap (λ (s : ℕ). set_word s w) slot ∙ sym h.is
 
@@ -63,11 +62,11 @@ module _ (p : Program) (v : View) (one_key : (s j k : ℕ) → Has v.keys (s, j)
 same_text : (p : Program) (pooled : ArePooled p.texts) (c d : ℕ) → c < length p.texts → d < length p.texts → text_of p c ≡ text_of p d → c ≡ d
 same_text p pooled c d v w e = (same_number p.texts c d (get_or p.texts c []) (get_or p.texts d []) pooled (slice_get-get_or p.texts c [] v) (slice_get-get_or p.texts d [] w)).0 e
 
-node_shown : (p : Program) (v : View) (i : Instance) (d : _) (x : Value) (c : ℕ) (r : Reference) → IsReference p c r → ShowsAtLeast p v i (kinds.Nodes d) x → has_node (nodes x) r ≡ true → ShowsCode p v i c
-node_shown p v i d x c Null tied least h = cc
-node_shown p v i d x c (At n) tied least h = let s = least n h in subst (λ (k : ℕ). ShowsCode p v i k) (one_tied_code p s.0 c (At n) s.1 tied) s.2
+node_shown : (p : Program) (v : View) → IsOpen p v.made → (i : Instance) (d : _) (x : Value) (c : ℕ) (r : Reference) → IsReferenceAt p v.made c r → ShowsAtLeast p v i (kinds.Nodes d) x → has_node (nodes x) r ≡ true → ShowsCode p v i c
+node_shown p v by i d x c Null tied least h = cc
+node_shown p v by i d x c (At n) tied least h = let s = least n h in subst (λ (k : ℕ). ShowsCode p v i k) (one_code p v.made by s.0 c (At n) s.1 tied) s.2
 
-at_most_code : (p : Program) (v : View) (i : Instance) (k : Kind) (y : Value) (c : ℕ) → ShowsAtMost p v i k y → IsElementCode p k c → ShowsCode p v i c → HasCode p k y c
+at_most_code : (p : Program) (v : View) (i : Instance) (k : Kind) (y : Value) (c : ℕ) → ShowsAtMost p v i k y → IsElementAt p v.made k c → ShowsCode p v i c → HasCodeAt p v.made k y c
 at_most_code p v i kinds.Truth y c most code h = absurd code
 at_most_code p v i kinds.Int y c most code h = absurd code
 at_most_code p v i kinds.Text y c most code h = absurd code
@@ -86,39 +85,39 @@ codes_seen p v i (kinds.Nodes d) w x e h = h
 
 -- the elements of what the words show whole have codes
 module _ (p : Program) (v : View) (a : AreApproximations p v) (i : Instance) (x : Value) where
-  pub codes_had : (k : Kind) → kind_in p i ≡ k → ShowsAtLeast p v i k x → HaveCodes p k x
+  pub codes_had : (k : Kind) → kind_in p i ≡ k → ShowsAtLeast p v i k x → HaveCodesAt p v.made k x
   codes_had kinds.Truth e least = tt
   codes_had kinds.Int e least = tt
   codes_had kinds.Text e least = tt
   codes_had (kinds.Node d) e least = tt
-  codes_had kinds.Texts e least = λ t h. let s = least t h in (s.0, subst (λ (k : Kind). IsElementCode p k s.0) e (a.codes i s.0 s.2), s.1)
-  codes_had (kinds.Nodes d) e least = λ n h. let s = least n h in (s.0, subst (λ (k : Kind). IsElementCode p k s.0) e (a.codes i s.0 s.2), s.1)
+  codes_had kinds.Texts e least = λ t h. let s = least t h in (s.0, subst (λ (k : Kind). IsElementAt p v.made k s.0) e (a.codes i s.0 s.2), s.1)
+  codes_had (kinds.Nodes d) e least = λ n h. let s = least n h in (s.0, subst (λ (k : Kind). IsElementAt p v.made k s.0) e (a.codes i s.0 s.2), s.1)
 
-module _ (p : Program) (v : View) (pooled : ArePooled p.texts) (a : AreApproximations p v) (i : Instance) (x : Value) (has : HasValue p i x) where
+module _ (p : Program) (v : View) (pooled : ArePooled p.texts) (by : IsOpen p v.made) (a : AreApproximations p v) (i : Instance) (x : Value) (has : HasValue p i x) where
   -- what is shown is in the value
-  pub shown_in : (c : ℕ) → ShowsCode p v i c → HasCode p (kind_in p i) x c
+  pub shown_in : (c : ℕ) → ShowsCode p v i c → HasCodeAt p v.made (kind_in p i) x c
   shown_in c h =
-      elim ((equations_of p).circular i) as (λ b. (equations_of p).circular i ≡ b → HasCode p (kind_in p i) x c) [
+      elim ((equations_of p).circular i) as (λ b. (equations_of p).circular i ≡ b → HasCodeAt p v.made (kind_in p i) x c) [
         | true ↦ λ e.
             let low = lower_below (equations_of p) (order_in p) (fits_in p) (join_in p) (are_rising p) (are_joins p) a.values a.lower i x e has in
-            has_code_more p (kind_in p i) (a.values i) x c low (at_most_code p v i (kind_in p i) (a.values i) c (a.circular i e) (a.codes i c h) h)
-        | false ↦ λ e. let s = a.undeclared i c e h in subst (λ (y : Value). HasCode p (kind_in p i) y c) (one p i s.0 x s.1 has) s.2
+            has_code_more p v.made (kind_in p i) (a.values i) x c low (at_most_code p v i (kind_in p i) (a.values i) c (a.circular i e) (a.codes i c h) h)
+        | false ↦ λ e. let s = a.undeclared i c e h in subst (λ (y : Value). HasCodeAt p v.made (kind_in p i) y c) (one p i s.0 x s.1 has) s.2
       ] refl
 
   -- and what is in the value is shown, where the words show it whole
-  in_shown : (k : Kind) → kind_in p i ≡ k → ShowsAtLeast p v i k x → (c : ℕ) → IsElementCode p k c → HasCode p k x c → ShowsCode p v i c
+  in_shown : (k : Kind) → kind_in p i ≡ k → ShowsAtLeast p v i k x → (c : ℕ) → IsElementAt p v.made k c → HasCodeAt p v.made k x c → ShowsCode p v i c
   in_shown kinds.Truth e least c code h = absurd code
   in_shown kinds.Int e least c code h = absurd code
   in_shown kinds.Text e least c code h = absurd code
   in_shown (kinds.Node d) e least c code h = absurd code
   in_shown kinds.Texts e least c code h =
       let s = least (text_of p c) h in
-      let its : IsElementCode p kinds.Texts s.0 = subst (λ (k : Kind). IsElementCode p k s.0) e (a.codes i s.0 s.2) in
+      let its : IsElementAt p v.made kinds.Texts s.0 = subst (λ (k : Kind). IsElementAt p v.made k s.0) e (a.codes i s.0 s.2) in
       subst (λ (d : ℕ). ShowsCode p v i d) (same_text p pooled s.0 c its code s.1) s.2
-  in_shown (kinds.Nodes d) e least c code h = node_shown p v i d x c code.1.0 code.1.1 least (has_tied p d x c code.1.0 code.1.1 h)
+  in_shown (kinds.Nodes d) e least c code h = node_shown p v by i d x c code.1.0 code.1.1 least (has_stands p v.made by x c code.1.0 d code.1.1 h)
 
   -- so a word of it is one of the value
-  pub word_of_value : (w word : ℕ) → is_single (kind_in p i) ≡ false → ShowsAtLeast p v i (kind_in p i) x → ((b : ℕ) → b < 64 → (bit_at word b ≡ 1) ↔ ShowsCode p v i (64 * w + b)) → IsWordOfValue p i w word
+  pub word_of_value : (w word : ℕ) → is_single (kind_in p i) ≡ false → ShowsAtLeast p v i (kind_in p i) x → ((b : ℕ) → b < 64 → (bit_at word b ≡ 1) ↔ ShowsCode p v i (64 * w + b)) → IsWordOfValue p v.made i w word
   word_of_value w word set least shown = record {
     value = x;
     has = has;

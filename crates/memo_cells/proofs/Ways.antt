@@ -6,22 +6,24 @@ use Rattle.rag_io.specs.Pool.{ArePooled}
 use Rattle.attr_rules.specs.declared.kinds.Kind.{Kind}
 use Rattle.equation_law.specs.declared.coding.Args.{Args}
 use Rattle.equation_law.specs.declared.coding.Instance.{Instance as CodedInstance}
-use Rattle.equation_law.specs.Checked.{HasSourcesAlone, IsInstance}
-use Rattle.equation_law.specs.Codes.{AreArgumentCodes, AreCodes, ByEachNaming, IsNamingOf, Naming, arguments_by, codes_in, instance_by, reference_by, value_coded}
+use Rattle.equation_law.specs.Checked.{IsInstance}
+use Rattle.equation_law.specs.Codes.{AreCodes, Naming, arguments_by, codes_in, instance_by, reference_by, value_coded}
 use Rattle.equation_law.specs.Names.{Argument, Attribute, Instance, Query}
 use Rattle.equation_law.specs.Program.{Program, attribute_parameters}
 use Rattle.equation_law.specs.Systems.{program_of}
 use Rattle.equation_law.specs.Values.{as_argument}
 use Rattle.equation_law.proofs.Codes.{one_reference}
 use Rattle.equation_law.proofs.Keys.{one_list}
-use Rattle.equation_law.proofs.Tied.{attribute_tied}
+use Rattle.made_trees.specs.Made.{AreNamed, last_code}
 use Rattle.memo_cells.specs.declared.view.Frame.{Frame}
 use Rattle.memo_cells.specs.declared.view.View.{View}
+use Rattle.memo_cells.specs.Agreeing.{Agrees, AreKnownCodes, ByEachAgreeing, IsKnownNode}
 use Rattle.memo_cells.specs.Keys.{argument_word, attribute_word, is_set_word, query_word}
 use Rattle.memo_cells.specs.Naming.{ClaimsKeysTo, IsCellOf, IsFormed, IsKeyTo, IsNamed, StandsFor}
 use Rattle.memo_cells.specs.Standing.{IsPassOf}
 use Rattle.memo_cells.specs.Views.{ClaimsOnly, Has, IsAtLeast, IsNowhere, IsPlain, IsSlot}
-use Rattle.memo_cells.proofs.Naming.{key_later, named_later, named_plain, one_word, stands_named}
+use Rattle.memo_cells.proofs.Agreeing.{agrees_before, meaning_each, row_each}
+use Rattle.memo_cells.proofs.Naming.{key_later, named_later, named_plain, one_word, stands_known, stands_named}
 
 -- the first of some codes are codes
 pub codes_front : (p : Program) (ks : List Kind) (cs ds : List ℕ) → AreCodes p ks (cs ++ ds) → AreCodes p ks cs
@@ -36,15 +38,11 @@ arguments_front n [] cs ds = ([], refl)
 arguments_front n (k ∷ ks) [] ds = (arguments_by n (k ∷ ks) ds, refl)
 arguments_front n (k ∷ ks) (c ∷ cs) ds = let r = arguments_front n ks cs ds in (r.0, ap (λ (xs : List Argument). as_argument k (value_coded n k c) ∷ xs) r.1)
 
-front_taken : (n : Naming) (ks : List Kind) (cs ds : List ℕ) → arguments_by n ks cs ≡ take (length cs) (arguments_by n ks (cs ++ ds))
-front_taken n [] [] ds = refl
-front_taken n [] (c ∷ cs) ds = refl
-front_taken n (k ∷ ks) [] ds = refl
-front_taken n (k ∷ ks) (c ∷ cs) ds = ap (λ (xs : List Argument). as_argument k (value_coded n k c) ∷ xs) (front_taken n ks cs ds)
-
--- they are tied to these where all of them are
-front_tied : (p : Program) (n : Naming) (ks : List Kind) (cs ds : List ℕ) → AreArgumentCodes p ks (cs ++ ds) (arguments_by n ks (cs ++ ds)) → AreArgumentCodes p ks cs (arguments_by n ks cs)
-front_tied p n ks cs ds all m g = front_taken m ks cs ds ∙ ap (take (length cs)) (all m g) ∙ sym (front_taken n ks cs ds)
+-- and known where all of them are
+known_front : (last : ℕ) (ks : List Kind) (cs ds : List ℕ) → AreNamed last ks (cs ++ ds) → AreNamed last ks cs
+known_front last [] cs ds all = tt
+known_front last (k ∷ ks) [] ds all = tt
+known_front last (k ∷ ks) (c ∷ cs) ds all = (all.0, known_front last ks cs ds all.1)
 
 -- the attribute a at the node of code n, with the first codes of its arguments, stands at the slot s
 pub record IsOnWay (f : Frame) (v : View) (a n : ℕ) (done : List ℕ) (s : ℕ) : Type 0 where
@@ -76,11 +74,11 @@ claims_on p u v w i a b more s =
 pub claims_key : (p : Program) (v w : View) (i : Instance) (k : ℕ) → ClaimsOnly v w k → IsKeyTo p w i k → ClaimsKeysTo p v w i
 claims_key p v w i k only key s = ⊎_elim inl (λ h. inr (k, h, key)) (only s)
 
--- the same by each naming
-pub claims_on_each : (p : Program) (u v w : View) (i : CodedInstance) → ByEachNaming p (λ n. ClaimsKeysTo p u v (instance_by p n i)) → ByEachNaming p (λ n. ClaimsKeysTo p v w (instance_by p n i)) → IsAtLeast v w → ByEachNaming p (λ n. ClaimsKeysTo p u w (instance_by p n i))
-claims_on_each p u v w i a b more n named = claims_on p u v w (instance_by p n i) (a n named) (b n named) more
+-- the same by each naming that agrees then
+pub claims_on_each : (p : Program) (u v w : View) (i : CodedInstance) → ByEachAgreeing p v.made (λ n. ClaimsKeysTo p u v (instance_by p n i)) → ByEachAgreeing p w.made (λ n. ClaimsKeysTo p v w (instance_by p n i)) → IsAtLeast v w → ByEachAgreeing p w.made (λ n. ClaimsKeysTo p u w (instance_by p n i))
+claims_on_each p u v w i a b more n agrees = claims_on p u v w (instance_by p n i) (a n (agrees_before p more.made agrees)) (b n agrees) more
 
-pub claims_key_each : (p : Program) (v w : View) (i : CodedInstance) (k : ℕ) → ClaimsOnly v w k → ByEachNaming p (λ n. IsKeyTo p w (instance_by p n i) k) → ByEachNaming p (λ n. ClaimsKeysTo p v w (instance_by p n i))
+pub claims_key_each : (p : Program) (v w : View) (i : CodedInstance) (k : ℕ) → ClaimsOnly v w k → ByEachAgreeing p w.made (λ n. IsKeyTo p w (instance_by p n i) k) → ByEachAgreeing p w.made (λ n. ClaimsKeysTo p v w (instance_by p n i))
 claims_key_each p v w i k only key n named = claims_key p v w (instance_by p n i) k only (key n named)
 
 -- one code more
@@ -96,15 +94,15 @@ module _ (f : Frame) (v : View) (a n : ℕ) where
   named_through s l [] ds has h = (s, l, has, h)
   named_through s l (c ∷ cs) ds has h = named_through h.0 h.1 cs ds h.2 h.3
 
-  module _ (p : Program) {m : Naming} (named : IsNamingOf p m) (pooled : ArePooled p.texts) (own : IsPassOf f v) (xs : Args) (good : AreCodes p (attribute_parameters p a) (codes_in xs)) where
+  module _ (p : Program) {m : Naming} (by : Agrees p v.made m) (pooled : ArePooled p.texts) (own : IsPassOf f v) (xs : Args) (good : AreCodes p (attribute_parameters p a) (codes_in xs)) where
     abbrev i : Instance
     i = Attribute a (reference_by m.node n) (arguments_by m (attribute_parameters p a) (codes_in xs))
 
     -- its cell has the word with all the codes
     cell_named : (s : ℕ) → IsCellOf p f v i s → (l : ℕ) × Has v.keys (s, l) × IsNamed v l a n (reverse (codes_in xs))
     cell_named s h =
-        let node : h.2.node ≡ n = one_reference named h.2.node n (h.2.at m named) in
-        let codes : h.2.codes ≡ codes_in xs = one_list p pooled named (attribute_parameters p a) h.2.codes (codes_in xs) h.2.good good (h.2.arguments m named) in
+        let node : h.2.node ≡ n = one_reference by.named h.2.node n (h.2.at m by) in
+        let codes : h.2.codes ≡ codes_in xs = one_list p pooled by.named (attribute_parameters p a) h.2.codes (codes_in xs) h.2.good good (h.2.arguments m by) in
         (h.0, h.1.1, subst (λ (y : ℕ × List ℕ). IsNamed v h.0 a y.0 (reverse y.1)) (λ t. (node t, codes t)) h.2.named)
 
     -- where the key of the attribute at the node stands nowhere, there is no cell
@@ -128,24 +126,25 @@ module _ (f : Frame) (v : View) (a n : ℕ) where
         let key : next.1 ≡ argument_word s c = before.6 ∙ ap (λ (q : ℕ). argument_word q c) slot in
         none next.0 (subst (λ (k : ℕ). Has v.keys (next.0, k)) key next.2)
 
--- a key of the way leads to the instance, whose codes are tied
-module _ (p : Program) (bare : HasSourcesAlone p) {m : Naming} (by : IsNamingOf p m) (v : View) (a n : ℕ) (xs : Args) (good : AreCodes p (attribute_parameters p a) (codes_in xs)) where
+-- a key of the way leads to the instance, whose codes are known
+module _ (p : Program) (v : View) {m : Naming} (by : Agrees p v.made m) (a n : ℕ) (xs : Args) (good : AreCodes p (attribute_parameters p a) (codes_in xs)) (known : IsKnownNode v.made n × AreKnownCodes v.made (attribute_parameters p a) (codes_in xs)) where
   abbrev of : Instance
   of = Attribute a (reference_by m.node n) (arguments_by m (attribute_parameters p a) (codes_in xs))
 
   pub key_on_way : IsInstance p of → (k : ℕ) (done rest : List ℕ) → done ++ rest ≡ codes_in xs → IsNamed v k a n (reverse done) → IsKeyTo p v of k
   key_on_way is k done rest all h =
       let front = arguments_front m (attribute_parameters p a) done rest in
-      let tied = attribute_tied p bare by a n (codes_in xs) is in
+      let front_known : AreKnownCodes v.made (attribute_parameters p a) done = known_front (last_code (length v.made)) (attribute_parameters p a) done rest (subst (λ (cs : List ℕ). AreKnownCodes v.made (attribute_parameters p a) cs) (sym all) known.1) in
       record {
         prefix = Attribute a (reference_by m.node n) (arguments_by m (attribute_parameters p a) done);
         of = (front.0, ap (Attribute a (reference_by m.node n)) (front.1 ∙ ap (arguments_by m (attribute_parameters p a)) all));
         stands = record {
           node = n;
           codes = done;
-          at = tied.0;
+          at = meaning_each p v.made by n (reference_by m.node n) known.0 refl;
           good = codes_front p (attribute_parameters p a) done rest (subst (λ (cs : List ℕ). AreCodes p (attribute_parameters p a) cs) (sym all) good);
-          arguments = front_tied p m (attribute_parameters p a) done rest (subst (λ (cs : List ℕ). AreArgumentCodes p (attribute_parameters p a) cs (arguments_by m (attribute_parameters p a) cs)) (sym all) tied.1);
+          arguments = row_each p v.made by (attribute_parameters p a) done front_known;
+          known = (known.0, front_known);
           named = h;
         };
       }
@@ -179,20 +178,20 @@ module _ (f : Frame) (v w : View) (a n : ℕ) (xs : Args) (place s : ℕ) (way :
     next_behind : (take place (codes_in xs) ++ c ∷ []) ++ drop (suc place) (codes_in xs) ≡ codes_in xs
     next_behind = append_assoc (take place (codes_in xs)) (c ∷ []) (drop (suc place) (codes_in xs)) ∙ (take_more (codes_in xs) place c at).1
 
-    pub key_next : (p : Program) → HasSourcesAlone p → {m : Naming} → IsNamingOf p m → AreCodes p (attribute_parameters p a) (codes_in xs) → IsInstance p (Attribute a (reference_by m.node n) (arguments_by m (attribute_parameters p a) (codes_in xs)))
+    pub key_next : (p : Program) {m : Naming} → Agrees p v.made m → IsKnownNode v.made n × AreKnownCodes v.made (attribute_parameters p a) (codes_in xs) → AreCodes p (attribute_parameters p a) (codes_in xs) → IsInstance p (Attribute a (reference_by m.node n) (arguments_by m (attribute_parameters p a) (codes_in xs)))
         → IsKeyTo p v (Attribute a (reference_by m.node n) (arguments_by m (attribute_parameters p a) (codes_in xs))) (argument_word s c)
-    key_next p bare by good is = key_on_way p bare by v a n xs good is (argument_word s c) (take place (codes_in xs) ++ c ∷ []) (drop (suc place) (codes_in xs)) next_behind word_next
+    key_next p by known good is = key_on_way p v by a n xs good known is (argument_word s c) (take place (codes_in xs) ++ c ∷ []) (drop (suc place) (codes_in xs)) next_behind word_next
 
-    pub key_after : (p : Program) → HasSourcesAlone p → (m : Naming) → IsNamingOf p m → AreCodes p (attribute_parameters p a) (codes_in xs) → IsInstance p (Attribute a (reference_by m.node n) (arguments_by m (attribute_parameters p a) (codes_in xs)))
+    pub key_after : (p : Program) (m : Naming) → Agrees p v.made m → IsKnownNode v.made n × AreKnownCodes v.made (attribute_parameters p a) (codes_in xs) → AreCodes p (attribute_parameters p a) (codes_in xs) → IsInstance p (Attribute a (reference_by m.node n) (arguments_by m (attribute_parameters p a) (codes_in xs)))
         → IsKeyTo p w (Attribute a (reference_by m.node n) (arguments_by m (attribute_parameters p a) (codes_in xs))) (argument_word s c)
-    key_after p bare m by good is = key_later v w more p (Attribute a (reference_by m.node n) (arguments_by m (attribute_parameters p a) (codes_in xs))) (argument_word s c) (key_next p bare by good is)
+    key_after p m by known good is = key_later v w more p (Attribute a (reference_by m.node n) (arguments_by m (attribute_parameters p a) (codes_in xs))) (argument_word s c) (key_next p by known good is)
 
     -- whatever the codes stand for
     pub way_key_next : (front behind : List ℕ) × (front ++ behind ≡ codes_in xs) × IsNamed w (argument_word s c) a n (reverse front)
     way_key_next = (take place (codes_in xs) ++ c ∷ [], drop (suc place) (codes_in xs), next_behind, named_later v w more (argument_word s c) a n (reverse (take place (codes_in xs) ++ c ∷ [])) word_next)
 
   -- where the word of the next code stands nowhere, the instance has no cell
-  pub nowhere_on : (c : ℕ) → slice_get (codes_in xs) place ≡ Some c → (p : Program) {m : Naming} → IsNamingOf p m → ArePooled p.texts → IsPassOf f w → AreCodes p (attribute_parameters p a) (codes_in xs) → IsNowhere w (argument_word s c)
+  pub nowhere_on : (c : ℕ) → slice_get (codes_in xs) place ≡ Some c → (p : Program) {m : Naming} → Agrees p w.made m → ArePooled p.texts → IsPassOf f w → AreCodes p (attribute_parameters p a) (codes_in xs) → IsNowhere w (argument_word s c)
       → (t : ℕ) → ¬ IsCellOf p f w (Attribute a (reference_by m.node n) (arguments_by m (attribute_parameters p a) (codes_in xs))) t
   nowhere_on c at p by pooled own-later good none =
       nowhere_next f w a n p by pooled own-later xs good (take place (codes_in xs)) (drop (suc place) (codes_in xs)) s c (take_more (codes_in xs) place c at).1 (way_later f v w a n (take place (codes_in xs)) s more way) none
@@ -204,13 +203,20 @@ take_all [] (suc k) e = refl
 take_all (x ∷ cs) zero e = cc
 take_all (x ∷ cs) (suc k) e = ap (λ (l : List ℕ). x ∷ l) (take_all cs k e)
 
-pub way_ends : (f : Frame) (v : View) → IsPassOf f v → {m : Naming} → IsNamingOf (program_of f.system.value) m → (a n : ℕ) (xs : Args) (place s : ℕ) → slice_get (codes_in xs) place ≡ None → IsOnWay f v a n (take place (codes_in xs)) s
+pub way_ends : (f : Frame) (v : View) → IsPassOf f v → {m : Naming} → Agrees (program_of f.system.value) v.made m → (a n : ℕ) (xs : Args) (place s : ℕ) → slice_get (codes_in xs) place ≡ None → IsOnWay f v a n (take place (codes_in xs)) s
     → IsCellOf (program_of f.system.value) f v (Attribute a (reference_by m.node n) (arguments_by m (attribute_parameters (program_of f.system.value) a) (codes_in xs))) s
 way_ends f v own by a n xs place s none way =
     let p = program_of f.system.value in
     let named : IsNamed v way.key a n (reverse (codes_in xs)) = subst (λ (cs : List ℕ). IsNamed v way.key a n (reverse cs)) (take_all (codes_in xs) place none) way.named in
     let it = own.named s way.key a n (reverse (codes_in xs)) way.slot.1 named in
     (way.key, way.slot, subst (StandsFor p v way.key) (sym (stands_named v own.one_key p by way.key a n (codes_in xs) it.0 it.1 named)) it.1)
+
+-- and the pass knows the nodes of the instance
+pub way_known : (f : Frame) (v : View) → IsPassOf f v → (a n : ℕ) (xs : Args) (place s : ℕ) → slice_get (codes_in xs) place ≡ None → IsOnWay f v a n (take place (codes_in xs)) s → IsKnownNode v.made n × AreKnownCodes v.made (attribute_parameters (program_of f.system.value) a) (codes_in xs)
+way_known f v own a n xs place s none way =
+    let named : IsNamed v way.key a n (reverse (codes_in xs)) = subst (λ (cs : List ℕ). IsNamed v way.key a n (reverse cs)) (take_all (codes_in xs) place none) way.named in
+    let it = own.named s way.key a n (reverse (codes_in xs)) way.slot.1 named in
+    stands_known v own.one_key (program_of f.system.value) way.key a n (codes_in xs) it.0 it.1 named
 
 -- what follows where a call finds something, or nothing
 pub some_then : {X : Type 0} {P Q : X → Type 0} (o : Option X) → ((x : X) → P x → Q x) → IfSome o P → IfSome o Q

@@ -1,18 +1,24 @@
 -- Which key words are those of what a set of instances needs, and what was claimed of them.
-use Rattle.std.specs.Prelude.{◌≡◌, ℕ, ◌/◌, ◌⊎◌}
-use Rattle.equation_law.specs.Codes.{IsReference}
+use Rattle.std.specs.Prelude.{◌≡◌, ℕ, true, ◌/◌, ◌⊎◌, List}
+use Rattle.attr_rules.specs.declared.kinds.Kind.{Kind}
+use Rattle.equation_law.specs.declared.coding.Instance.{Instance as CodedInstance}
+use Rattle.equation_law.specs.Equations.{HasValue, equations_of}
+use Rattle.equation_law.specs.Lower.{IsLower}
 use Rattle.equation_law.specs.Keys.{IsJust, IsKey, Member, Part, Prefix, Word}
 use Rattle.equation_law.specs.Names.{At, Instance, NodeName}
 use Rattle.equation_law.specs.Program.{Program}
+use Rattle.equation_law.specs.Values.{Value}
 use Rattle.memo_cells.specs.declared.view.Frame.{Frame}
 use Rattle.memo_cells.specs.declared.view.View.{View}
+use Rattle.memo_cells.specs.Agreeing.{HasCodeAt, IsKnownNode, IsReferenceAt}
 use Rattle.memo_cells.specs.Naming.{IsWordOf, StandsFor}
 use Rattle.memo_cells.specs.Views.{Has, IsFull, times}
 
 -- k is the key word of the word of the set of i in which the code of the node m lies
 pub record IsKeyOfMember (p : Program) (v : View) (k : ℕ) (i : Instance) (m : NodeName) : Type 0 where
   pub code : ℕ
-  pub at : IsReference p code (At m)
+  pub at : IsReferenceAt p v.made code (At m)
+  pub known : IsKnownNode v.made code
   pub word : IsWordOf p v k i (code / 64)
 
 -- k is the key word of x
@@ -40,3 +46,7 @@ ClaimsKeys p i v w = ClaimsKeysOf p (IsJust i) v w
 -- other keys have all the cells than some key of i
 abbrev pub FillsCells : Program → Instance → Frame → View → Type 0
 FillsCells p i f v = FillsCellsOf p (IsJust i) f v
+
+-- an element of this code lies in a set that counts for i: its value in the solution, or one that it has under a lower assignment
+abbrev pub CountsCode : Program → List CodedInstance → Instance → Kind → ℕ → Type 0
+CountsCode p ms i k c = ((x : Value) × HasValue p i x × HasCodeAt p ms k x c) ⊎ ((T : Instance → Value) × IsLower p T × ((equations_of p).circular i ≡ true) × HasCodeAt p ms k (T i) c)

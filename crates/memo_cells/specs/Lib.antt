@@ -1,3 +1,4 @@
+pub mod Agreeing
 pub mod Causes
 pub mod Claiming
 pub mod Keys

@@ -3,13 +3,14 @@ use Rattle.std.specs.Prelude.{◌≡◌, ℕ, ◌<◌, ◌^◌, ◌/◌, List, [
 use Rattle.equation_law.specs.declared.coding.Instance.{Instance as CodedInstance}
 use Rattle.equation_law.specs.declared.coding.Instance.TheVariants as coded
 use Rattle.equation_law.specs.Checked.{IsInstance}
-use Rattle.equation_law.specs.Codes.{AreArgumentCodes, AreCodes, IsReference, codes_in}
+use Rattle.equation_law.specs.Codes.{AreCodes, codes_in}
 use Rattle.equation_law.specs.Equations.{kind_in}
-use Rattle.equation_law.specs.Keys.{IsElementCode, IsPrefix}
+use Rattle.equation_law.specs.Keys.{IsPrefix}
 use Rattle.equation_law.specs.Names.{Argument, Attribute, Instance, Query, Reference}
 use Rattle.equation_law.specs.Program.{Program, attribute_parameters}
 use Rattle.memo_cells.specs.declared.view.Frame.{Frame}
 use Rattle.memo_cells.specs.declared.view.View.{View}
+use Rattle.memo_cells.specs.Agreeing.{AreArgumentCodesAt, AreKnownCodes, IsElementAt, IsKnownNode, IsReferenceAt}
 use Rattle.memo_cells.specs.Keys.{argument_word, attribute_word, query_word, set_word}
 use Rattle.memo_cells.specs.Views.{Has, IsFull, IsSlot, times}
 
@@ -24,13 +25,14 @@ abbrev pub IsWayKey : View → CodedInstance → ℕ → Type 0
 IsWayKey v (coded.Attr a n xs) k = (front behind : List ℕ) × (front ++ behind ≡ codes_in xs) × IsNamed v k a.0 n.0 (reverse front)
 IsWayKey v (coded.Query q) k = (q.0 < 2 ^ 32) × (k ≡ query_word q.0)
 
--- k is the key word of the attribute a at the node r with the arguments xs, to which its codes are tied
+-- k is the key word of the attribute a at the node r with the arguments xs, for which its codes stand, and the pass knows these codes
 pub record IsAttributeKey (p : Program) (v : View) (k a : ℕ) (r : Reference) (xs : List Argument) : Type 0 where
   pub node : ℕ
   pub codes : List ℕ
-  pub at : IsReference p node r
+  pub at : IsReferenceAt p v.made node r
   pub good : AreCodes p (attribute_parameters p a) codes
-  pub arguments : AreArgumentCodes p (attribute_parameters p a) codes xs
+  pub arguments : AreArgumentCodesAt p v.made (attribute_parameters p a) codes xs
+  pub known : IsKnownNode v.made node × AreKnownCodes v.made (attribute_parameters p a) codes
   pub named : IsNamed v k a node (reverse codes)
 
 -- k is the key word of i, by the keys that are seen claimed
@@ -67,7 +69,7 @@ pub record IsFormedWord (p : Program) (v : View) (k : ℕ) : Type 0 where
   pub word : ℕ
   pub key : IsWordOf p v k of word
   pub code : ℕ
-  pub element : IsElementCode p (kind_in p of) code
+  pub element : IsElementAt p v.made (kind_in p of) code
   pub lies : code / 64 ≡ word
 
 -- it is the key of a cell of the program

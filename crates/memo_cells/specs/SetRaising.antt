@@ -5,12 +5,12 @@ use Rattle.equation_law.specs.declared.coding.Value.{Value as CodedValue}
 use Rattle.equation_law.specs.declared.coding.Value.TheVariants as coded
 use Rattle.equation_law.specs.Checked.{IsInstance}
 use Rattle.equation_law.specs.Equations.{kind_in}
-use Rattle.equation_law.specs.Keys.{HasCode, IsElementCode}
 use Rattle.equation_law.specs.Names.{Instance}
 use Rattle.equation_law.specs.Program.{Program}
 use Rattle.equation_law.specs.Values.{Value}
 use Rattle.memo_cells.specs.declared.view.Frame.{Frame}
 use Rattle.memo_cells.specs.declared.view.View.{View}
+use Rattle.memo_cells.specs.Agreeing.{HasCodeAt, IsElementAt}
 use Rattle.memo_cells.specs.Naming.{IsCellOf, IsWordOf}
 use Rattle.memo_cells.specs.Showing.{ShowsCode}
 use Rattle.memo_cells.specs.Standing.{MayShow}
@@ -32,7 +32,7 @@ pub record MayShowAll (p : Program) (f : Frame) (v : View) (i : Instance) (place
   pub instance : IsInstance p i
   pub value : Value
   pub may : MayShow p v i value
-  pub elements : (c : ℕ) → Has codes c → IsElementCode p (kind_in p i) c × HasCode p (kind_in p i) value c
+  pub elements : (c : ℕ) → Has codes c → IsElementAt p v.made (kind_in p i) c × HasCodeAt p v.made (kind_in p i) value c
 
 -- the words of i show all of them
 abbrev pub ShowsAll : Program → View → Instance → List ℕ → Type 0

@@ -4,18 +4,19 @@ use Rattle.std.specs.Int.{bit_at}
 use Rattle.attr_rules.specs.declared.kinds.Kind.{Kind}
 use Rattle.attr_rules.specs.Rules.{is_single}
 use Rattle.code_sets.specs.Members.{has_code}
+use Rattle.equation_law.specs.declared.coding.Instance.{Instance as CodedInstance}
 use Rattle.equation_law.specs.declared.coding.Value.{Value as CodedValue}
-use Rattle.equation_law.specs.Codes.{AreElements, ByEachNaming, value_by}
+use Rattle.equation_law.specs.Codes.{AreElements, value_by}
 use Rattle.equation_law.specs.Equations.{HasValue, is_ordered, kind_in}
-use Rattle.equation_law.specs.Keys.{HasCode, IsElementCode}
 use Rattle.equation_law.specs.Names.{Instance}
 use Rattle.equation_law.specs.Orders.{FitsKind}
 use Rattle.equation_law.specs.Program.{Program}
 use Rattle.equation_law.specs.Values.{Value, as_kind}
 use Rattle.memo_cells.specs.declared.view.View.{View}
+use Rattle.memo_cells.specs.Agreeing.{ByEachAgreeing, HasCodeAt, HaveCodesAt, IsElementAt, IsKnownValue}
 use Rattle.memo_cells.specs.Naming.{IsCellOf}
 use Rattle.memo_cells.specs.Showing.{ShowsAtLeast, ShowsAtMost, ShowsCode}
-use Rattle.memo_cells.specs.Standing.{HaveCodes, Knows}
+use Rattle.memo_cells.specs.Standing.{Knows}
 use Rattle.memo_cells.specs.Working.{Held, program_at}
 
 -- the code c lies in this word, from one code on, below another, and has its bit there
@@ -36,11 +37,11 @@ pub record AddsWord (word bits from to : ℕ) (before after : List ℕ) : Type 0
   pub only : (c : ℕ) → has_code after c ≡ true → (has_code before c ≡ true) ⊎ IsInWord word bits from to c
 
 -- the elements of the value of i have codes, and those from one code on, below another, are among these
-pub record AreSettledCodes (p : Program) (i : Instance) (from to : ℕ) (cs : List ℕ) : Type 0 where
+pub record AreSettledCodes (p : Program) (ms : List CodedInstance) (i : Instance) (from to : ℕ) (cs : List ℕ) : Type 0 where
   pub value : Value
   pub has : HasValue p i value
-  pub elements : HaveCodes p (kind_in p i) value
-  pub all : (c : ℕ) → from ≤ c → c < to → IsElementCode p (kind_in p i) c → HasCode p (kind_in p i) value c → has_code cs c ≡ true
+  pub elements : HaveCodesAt p ms (kind_in p i) value
+  pub all : (c : ℕ) → from ≤ c → c < to → IsElementAt p ms (kind_in p i) c → HasCodeAt p ms (kind_in p i) value c → has_code cs c ≡ true
 
 -- These codes lie from one code on, below another, and the words of i show each. All such codes are among them that the words showed before, and where i
 -- was seen settled, all those of its value.
@@ -49,16 +50,17 @@ pub record AreCodesShown (p : Program) (before now : View) (i : Instance) (from 
   pub below : (c : ℕ) → has_code cs c ≡ true → c < to
   pub shown : (c : ℕ) → has_code cs c ≡ true → ShowsCode p now i c
   pub all : (c : ℕ) → from ≤ c → c < to → ShowsCode p before i c → has_code cs c ≡ true
-  pub settled : Knows p before i → AreSettledCodes p i from to cs
+  pub settled : Knows p before i → AreSettledCodes p before.made i from to cs
 
--- By each naming the value x is of the type of i, at least what the words showed before, and at most what they show now. Where the pass knew i as settled before, it is the
+-- By each naming that agrees with the pass then the value x is of the type of i, at least what the words showed before, and at most what they show now. Where the pass knew i as settled before, it is the
 -- value in the solution.
 pub record IsShownValue (p : Program) (before now : View) (i : Instance) (x : CodedValue) : Type 0 where
   pub elements : AreElements p x
-  pub fits : ByEachNaming p (λ n. FitsKind (kind_in p i) (value_by n x))
-  pub shown : ByEachNaming p (λ n. ShowsAtLeast p now i (kind_in p i) (value_by n x))
-  pub all : ByEachNaming p (λ n. ShowsAtMost p before i (kind_in p i) (value_by n x))
-  pub settled : Knows p before i → (w : Value) × HasValue p i w × ByEachNaming p (λ n. value_by n x ≡ as_kind (kind_in p i) w)
+  pub known : IsKnownValue now.made x
+  pub fits : ByEachAgreeing p now.made (λ n. FitsKind (kind_in p i) (value_by n x))
+  pub shown : ByEachAgreeing p now.made (λ n. ShowsAtLeast p now i (kind_in p i) (value_by n x))
+  pub all : ByEachAgreeing p now.made (λ n. ShowsAtMost p before i (kind_in p i) (value_by n x))
+  pub settled : Knows p before i → (w : Value) × HasValue p i w × ByEachAgreeing p now.made (λ n. value_by n x ≡ as_kind (kind_in p i) w)
 
 -- they are the codes shown of a set that has its cell at this place, with what is held before and after
 abbrev pub AreCodesShownAt : Held → Held → ℕ → ℕ → ℕ → List ℕ → Type 0

@@ -3,13 +3,12 @@ use Rattle.std.specs.Prelude.{◌≡◌, ◌↔◌, ℕ, true, ◌+◌, ◌*◌,
 use Rattle.std.specs.Int.{bit_at}
 use Rattle.attr_rules.specs.declared.kinds.Kind.{Kind}
 use Rattle.attr_rules.specs.declared.kinds.Kind.TheVariants as kinds
-use Rattle.equation_law.specs.Codes.{IsReference}
-use Rattle.equation_law.specs.Keys.{HasCode}
 use Rattle.equation_law.specs.Names.{At, Instance, NodeName}
 use Rattle.equation_law.specs.Program.{Program, text_of}
 use Rattle.equation_law.specs.Sets.{has}
 use Rattle.equation_law.specs.Values.{Value, nodes, texts, truth}
 use Rattle.memo_cells.specs.declared.view.View.{View}
+use Rattle.memo_cells.specs.Agreeing.{HasCodeAt, IsReferenceAt}
 use Rattle.memo_cells.specs.Naming.{IsWordOf, StandsFor}
 use Rattle.memo_cells.specs.Views.{Has}
 
@@ -27,8 +26,8 @@ ShowsAtMost p v i kinds.Truth x = ShowsTrue p v i → truth x ≡ true
 ShowsAtMost p v i kinds.Int x = Unit {0}
 ShowsAtMost p v i kinds.Text x = Unit {0}
 ShowsAtMost p v i (kinds.Node d) x = Unit {0}
-ShowsAtMost p v i kinds.Texts x = (c : ℕ) → ShowsCode p v i c → HasCode p kinds.Texts x c
-ShowsAtMost p v i (kinds.Nodes d) x = (c : ℕ) → ShowsCode p v i c → HasCode p (kinds.Nodes d) x c
+ShowsAtMost p v i kinds.Texts x = (c : ℕ) → ShowsCode p v i c → HasCodeAt p v.made kinds.Texts x c
+ShowsAtMost p v i (kinds.Nodes d) x = (c : ℕ) → ShowsCode p v i c → HasCodeAt p v.made (kinds.Nodes d) x c
 
 -- x is at most what they show
 abbrev pub ShowsAtLeast : Program → View → Instance → Kind → Value → Type 0
@@ -37,7 +36,7 @@ ShowsAtLeast p v i kinds.Int x = Unit {0}
 ShowsAtLeast p v i kinds.Text x = Unit {0}
 ShowsAtLeast p v i (kinds.Node d) x = Unit {0}
 ShowsAtLeast p v i kinds.Texts x = (t : List ℕ) → has (texts x) t ≡ true → (c : ℕ) × (text_of p c ≡ t) × ShowsCode p v i c
-ShowsAtLeast p v i (kinds.Nodes d) x = (n : NodeName) → has (nodes x) n ≡ true → (c : ℕ) × IsReference p c (At n) × ShowsCode p v i c
+ShowsAtLeast p v i (kinds.Nodes d) x = (n : NodeName) → has (nodes x) n ≡ true → (c : ℕ) × IsReferenceAt p v.made c (At n) × ShowsCode p v i c
 
 -- x is the w-th word of what the words show of i, read at a type
 abbrev pub IsWordSeen : Program → View → Instance → Kind → ℕ → ℕ → Type 0

@@ -4,24 +4,24 @@ use Rattle.std.specs.Int.{bit_at}
 use Rattle.solutions.specs.Asking.{Ends, Meets}
 use Rattle.solutions.specs.Leading.{Holds, IsLower, Mixed, Read}
 use Rattle.solutions.specs.Rounds.{is_in}
-use Rattle.attr_rules.specs.declared.kinds.Kind.{Kind}
 use Rattle.attr_rules.specs.declared.kinds.Kind.TheVariants as kinds
 use Rattle.attr_rules.specs.Rules.{is_single}
 use Rattle.attr_rules.specs.Types.{truth_kind}
+use Rattle.equation_law.specs.declared.coding.Instance.{Instance as CodedInstance}
 use Rattle.equation_law.specs.declared.system.System.{System}
 use Rattle.equation_law.specs.Checked.{HasSourcesAlone, IsInstance}
-use Rattle.equation_law.specs.Codes.{IsReference, IsSmall, IsValueCode}
+use Rattle.equation_law.specs.Codes.{IsSmall}
 use Rattle.equation_law.specs.Equations.{HasValue, equations_of, kind_in}
-use Rattle.equation_law.specs.Keys.{HasCode, IsElementCode}
 use Rattle.equation_law.specs.Loops.{fits_in, join_in, order_in}
-use Rattle.equation_law.specs.Names.{At, Instance, NodeName}
+use Rattle.equation_law.specs.Names.{Instance}
 use Rattle.equation_law.specs.Orders.{FitsKind}
-use Rattle.equation_law.specs.Program.{Program, text_of}
+use Rattle.equation_law.specs.Program.{Program}
 use Rattle.equation_law.specs.Systems.{program_of}
-use Rattle.equation_law.specs.Sets.{has}
-use Rattle.equation_law.specs.Values.{Value, as_kind, nodes, texts, truth}
+use Rattle.equation_law.specs.Values.{Value, as_kind, truth}
+use Rattle.made_trees.specs.Makers.{AreTrees, Trees}
 use Rattle.memo_cells.specs.declared.view.Frame.{Frame}
 use Rattle.memo_cells.specs.declared.view.View.{View}
+use Rattle.memo_cells.specs.Agreeing.{HasCodeAt, HaveCodesAt, IsElementAt, IsKnownCode, IsValueCodeAt}
 use Rattle.memo_cells.specs.Naming.{IsCellOf, IsFormed, IsNamed, IsWordOf, StandsFor}
 use Rattle.memo_cells.specs.Showing.{IsWordSeen, ShowsAtLeast, ShowsAtMost, ShowsCode, ShowsTrue}
 use Rattle.memo_cells.specs.Views.{Has, IsFull, IsNowhere, bits_from, first_view, keys_from, knows_all, places_from, times, values_from, word_at}
@@ -35,23 +35,15 @@ pub record Knows (p : Program) (v : View) (i : Instance) : Type 0 where
   pub code : ℕ
   pub settled : Has v.values (slot, key, code)
 
--- each element of a set of this type has a code
-abbrev pub HaveCodes : Program → Kind → Value → Type 0
-HaveCodes p kinds.Truth x = Unit {0}
-HaveCodes p kinds.Int x = Unit {0}
-HaveCodes p kinds.Text x = Unit {0}
-HaveCodes p (kinds.Node d) x = Unit {0}
-HaveCodes p kinds.Texts x = (t : List ℕ) → has (texts x) t ≡ true → (c : ℕ) × IsElementCode p kinds.Texts c × (text_of p c ≡ t)
-HaveCodes p (kinds.Nodes d) x = (n : NodeName) → has (nodes x) n ≡ true → (c : ℕ) × IsElementCode p (kinds.Nodes d) c × IsReference p c (At n)
-
--- c is the code of the value that i has in the solution, and tied to it; that of a set is 0, and its elements have codes
-pub record IsCodeOf (p : Program) (i : Instance) (c : ℕ) : Type 0 where
+-- c is the code of the value that i has in the solution, and the pass knows it; that of a set is 0, and its elements have codes
+pub record IsCodeOf (p : Program) (ms : List CodedInstance) (i : Instance) (c : ℕ) : Type 0 where
   pub value : Value
   pub has : HasValue p i value
-  pub coded : is_single (kind_in p i) ≡ true → IsValueCode p (kind_in p i) c (as_kind (kind_in p i) value)
+  pub coded : is_single (kind_in p i) ≡ true → IsValueCodeAt p ms (kind_in p i) c (as_kind (kind_in p i) value)
   pub small : IsSmall (kind_in p i) c
   pub fits : c < 2 ^ 32
-  pub elements : HaveCodes p (kind_in p i) value
+  pub known : IsKnownCode ms (kind_in p i) c
+  pub elements : HaveCodesAt p ms (kind_in p i) value
 
 -- the words show x of i, or i is seen settled, and x is its value
 abbrev pub IsShown : Program → View → Instance → Value → Type 0
@@ -61,16 +53,16 @@ IsShown p v i x = ShowsAtLeast p v i (kind_in p i) x ⊎ (Knows p v i × HasValu
 abbrev pub AreShown : Program → View → (Instance → Value) → Type 0
 AreShown p v B = (j : Instance) → (equations_of p).circular j ≡ true → FitsKind (kind_in p j) (B j) × IsShown p v j (B j)
 
--- x is the w-th word of the value of i, if that is a set, and tells a truth value
-pub record IsWordOfValue (p : Program) (i : Instance) (w x : ℕ) : Type 0 where
+-- x is the w-th word of the value of i, if that is a set, by the codes that the pass knows, and tells a truth value
+pub record IsWordOfValue (p : Program) (ms : List CodedInstance) (i : Instance) (w x : ℕ) : Type 0 where
   pub value : Value
   pub has : HasValue p i value
-  pub bits : is_single (kind_in p i) ≡ false → (b : ℕ) → b < 64 → IsElementCode p (kind_in p i) (64 * w + b) → (bit_at x b ≡ 1) ↔ HasCode p (kind_in p i) value (64 * w + b)
+  pub bits : is_single (kind_in p i) ≡ false → (b : ℕ) → b < 64 → IsElementAt p ms (kind_in p i) (64 * w + b) → (bit_at x b ≡ 1) ↔ HasCodeAt p ms (kind_in p i) value (64 * w + b)
   pub tells : kind_in p i ≡ kinds.Truth → (x ≡ 1) ↔ (truth value ≡ true)
 
 -- where k is the key of the w-th word of a set that is seen settled, x is that word of its value
 abbrev pub IsValueWord : Program → View → ℕ → ℕ → Type 0
-IsValueWord p v k x = (i : Instance) (w : ℕ) → IsWordOf p v k i w → is_single (kind_in p i) ≡ false → Knows p v i → IsWordOfValue p i w x
+IsValueWord p v k x = (i : Instance) (w : ℕ) → IsWordOf p v k i w → is_single (kind_in p i) ≡ false → Knows p v i → IsWordOfValue p v.made i w x
 
 -- The key isn't seen claimed; where it is that of a word of a set that is seen settled, no element of its value lies there.
 pub record IsMissing (p : Program) (v : View) (k : ℕ) : Type 0 where
@@ -97,7 +89,7 @@ pub record IsSettledBy (p : Program) (v : View) (safe : Instance → Instance �
   pub of : Instance
   pub instance : IsInstance p of
   pub stands : StandsFor p v k of
-  pub code : IsCodeOf p of c
+  pub code : IsCodeOf p v.made of c
   pub shown : is_single (kind_in p of) ≡ false → ShowsAtLeast p v of (kind_in p of) code.value
   pub closed : (j : Instance) → Meets (HasValue p) ((equations_of p).equation of) j → safe of j
 
@@ -116,10 +108,14 @@ pub record AreApproximations (p : Program) (v : View) : Type 0 where
   pub values : Instance → Value
   pub lower : IsLowerOf p values
   pub circular : (i : Instance) → (equations_of p).circular i ≡ true → ShowsAtMost p v i (kind_in p i) (values i)
-  pub codes : (i : Instance) (c : ℕ) → ShowsCode p v i c → IsElementCode p (kind_in p i) c
-  pub undeclared : (i : Instance) (c : ℕ) → (equations_of p).circular i ≡ false → ShowsCode p v i c → (x : Value) × HasValue p i x × HasCode p (kind_in p i) x c
+  pub codes : (i : Instance) (c : ℕ) → ShowsCode p v i c → IsElementAt p v.made (kind_in p i) c
+  pub undeclared : (i : Instance) (c : ℕ) → (equations_of p).circular i ≡ false → ShowsCode p v i c → (x : Value) × HasValue p i x × HasCodeAt p v.made (kind_in p i) x c
   pub truths : (i : Instance) → (equations_of p).circular i ≡ false → kind_in p i ≡ kinds.Truth → ShowsTrue p v i → (x : Value) × HasValue p i x × (truth x ≡ true)
   pub final : (i : Instance) → (equations_of p).circular i ≡ true → Knows p v i → (x : Value) → HasValue p i x → order_in p i x (values i)
+
+-- the trees that a pass of these cells knows
+abbrev pub trees_of : Frame → List CodedInstance → Trees
+trees_of f ms = record { system = f.system.value; makers = ms }
 
 -- A pass of these cells that has these slots still to seal: what it knows stands in one table, where a place has one key and a key one place. A key
 -- whose way is seen claimed stands for an instance, and what is settled codes the value of each instance that its key stands for. What the words show
@@ -130,12 +126,14 @@ pub record IsSeatOf (f : Frame) (v : View) (left : List ℕ) : Type 0 where
   pub frame : v.frame ≡ Some f
   pub few : f.cells ≤ 4194304
   pub bare : HasSourcesAlone (program_of f.system.value)
+  pub nothing : v.made ≡ []
+  pub trees : AreTrees (trees_of f v.made)
   pub within : (p k : ℕ) → Has v.keys (p, k) → p < f.cells
   pub one_key : (p j k : ℕ) → Has v.keys (p, j) → Has v.keys (p, k) → j ≡ k
   pub one_place : (p q k : ℕ) → Has v.keys (p, k) → Has v.keys (q, k) → p ≡ q
   pub named : (s k a n : ℕ) (cs : List ℕ) → Has v.keys (s, k) → IsNamed v k a n cs → (i : Instance) × StandsFor (program_of f.system.value) v k i
   pub valued : (p k c : ℕ) → Has v.values (p, k, c) → Has v.keys (p, k)
-  pub coded : (p k c : ℕ) → Has v.values (p, k, c) → (i : Instance) → StandsFor (program_of f.system.value) v k i → IsCodeOf (program_of f.system.value) i c
+  pub coded : (p k c : ℕ) → Has v.values (p, k, c) → (i : Instance) → StandsFor (program_of f.system.value) v k i → IsCodeOf (program_of f.system.value) v.made i c
   pub keyed : (p k n : ℕ) → Has v.bits (p, k, n) → Has v.keys (p, k)
   pub approximations : AreApproximations (program_of f.system.value) v
   pub full : (k : ℕ) → IsFull f v k → IsValueWord (program_of f.system.value) v k 0
@@ -172,8 +170,8 @@ abbrev pub MayShow : Program → View → Instance → Value → Type 0
 MayShow p v i x = ((equations_of p).circular i ≡ true × ComesTo p v i x) ⊎ ((equations_of p).circular i ≡ false × HasValue p i x)
 
 -- each of these bits stands for an element of the value x of i, in the w-th word of its set
-abbrev pub AreElementsOf : Program → Instance → Value → ℕ → ℕ → Type 0
-AreElementsOf p i x w bits = (b : ℕ) → b < 64 → bit_at bits b ≡ 1 → IsElementCode p (kind_in p i) (64 * w + b) × HasCode p (kind_in p i) x (64 * w + b)
+abbrev pub AreElementsOf : Program → List CodedInstance → Instance → Value → ℕ → ℕ → Type 0
+AreElementsOf p ms i x w bits = (b : ℕ) → b < 64 → bit_at bits b ≡ 1 → IsElementAt p ms (kind_in p i) (64 * w + b) × HasCodeAt p ms (kind_in p i) x (64 * w + b)
 
 -- these bits may be set in the w-th word of the set of what stands at this place
 pub record MayRaiseSet (p : Program) (v : View) (place w bits : ℕ) : Type 0 where
@@ -184,7 +182,7 @@ pub record MayRaiseSet (p : Program) (v : View) (place w bits : ℕ) : Type 0 wh
   pub instance : IsInstance p of
   pub value : Value
   pub may : MayShow p v of value
-  pub elements : AreElementsOf p of value w bits
+  pub elements : AreElementsOf p v.made of value w bits
 
 -- the same of the key of the word
 pub record MayAdd (p : Program) (v : View) (place bits : ℕ) : Type 0 where
@@ -195,7 +193,7 @@ pub record MayAdd (p : Program) (v : View) (place bits : ℕ) : Type 0 where
   pub is : IsWordOf p v key of word
   pub value : Value
   pub may : MayShow p v of value
-  pub elements : AreElementsOf p of value word bits
+  pub elements : AreElementsOf p v.made of value word bits
 
 -- a circular instance stands here that may be true
 pub record MayRaiseTruth (p : Program) (v : View) (place : ℕ) : Type 0 where
@@ -236,11 +234,11 @@ ClaimsForSet f v w place = (i : Instance) → IsCellOf (program_of f.system.valu
 
 -- where it was seen settled, x is that word of its value
 abbrev pub HasKnownWordOfSet : Frame → View → View → ℕ → ℕ → ℕ → Type 0
-HasKnownWordOfSet f before now place w x = (i : Instance) → IsCellOf (program_of f.system.value) f now i place → is_single (kind_in (program_of f.system.value) i) ≡ false → Knows (program_of f.system.value) before i → IsWordOfValue (program_of f.system.value) i w x
+HasKnownWordOfSet f before now place w x = (i : Instance) → IsCellOf (program_of f.system.value) f now i place → is_single (kind_in (program_of f.system.value) i) ≡ false → Knows (program_of f.system.value) before i → IsWordOfValue (program_of f.system.value) before.made i w x
 
 -- where what has its cell at this place was seen settled, x is the w-th word of its value
 abbrev pub HasKnownWord : Frame → View → View → ℕ → ℕ → ℕ → Type 0
-HasKnownWord f before now place w x = (i : Instance) → IsCellOf (program_of f.system.value) f now i place → Knows (program_of f.system.value) before i → IsWordOfValue (program_of f.system.value) i w x
+HasKnownWord f before now place w x = (i : Instance) → IsCellOf (program_of f.system.value) f now i place → Knows (program_of f.system.value) before i → IsWordOfValue (program_of f.system.value) before.made i w x
 
 -- What stands in these slots are circular instances of the program that are closed under values that the words show: what each of their equations reads
 -- is the value of one of them, or seen settled, and it comes to at most the value of its own instance.
@@ -268,26 +266,28 @@ pub record IsRaised (p : Program) (v : View) (T : Instance → Value) (k : ℕ) 
   pub is_true : truth (T of) ≡ true
 
 -- the element of code c is in the value that T gives a circular i, or in the value of an undeclared one
-abbrev pub IsPart : Program → (Instance → Value) → Instance → ℕ → Type 0
-IsPart p T i c = (((equations_of p).circular i ≡ true) × HasCode p (kind_in p i) (T i) c) ⊎ (((equations_of p).circular i ≡ false) × ((x : Value) × HasValue p i x × HasCode p (kind_in p i) x c))
+abbrev pub IsPart : Program → List CodedInstance → (Instance → Value) → Instance → ℕ → Type 0
+IsPart p ms T i c = (((equations_of p).circular i ≡ true) × HasCodeAt p ms (kind_in p i) (T i) c) ⊎ (((equations_of p).circular i ≡ false) × ((x : Value) × HasValue p i x × HasCodeAt p ms (kind_in p i) x c))
 
 -- k is the key of a word of a set, and the b-th bit of that word stands for an element of the type that is one
 pub record IsElement (p : Program) (v : View) (T : Instance → Value) (k b : ℕ) : Type 0 where
   pub of : Instance
   pub word : ℕ
   pub key : IsWordOf p v k of word
-  pub part : IsPart p T of (64 * word + b)
-  pub code : IsElementCode p (kind_in p of) (64 * word + b)
+  pub part : IsPart p v.made T of (64 * word + b)
+  pub code : IsElementAt p v.made (kind_in p of) (64 * word + b)
 
 -- the words of the cells of a program that makes nothing, if a pass knows all of them and has still to seal these slots
-pub record AreWords (f : Frame) (ts ks vs : List ℕ) : Type 0 where
+pub record AreWords (f : Frame) (ms : List CodedInstance) (ts ks vs : List ℕ) : Type 0 where
   pub bare : HasSourcesAlone (program_of f.system.value)
+  pub nothing : ms ≡ []
+  pub trees : AreTrees (trees_of f ms)
   pub values : Instance → Value
   pub lower : IsLowerOf (program_of f.system.value) values
-  pub ordered : AreOrdered (IsFormed (program_of f.system.value) (knows_all f ts ks vs)) (IsFinal (program_of f.system.value) (knows_all f ts ks vs) values) (IsRaised (program_of f.system.value) (knows_all f ts ks vs) values) (IsElement (program_of f.system.value) (knows_all f ts ks vs) values) f.cells (word_at ks) (word_at vs)
+  pub ordered : AreOrdered (IsFormed (program_of f.system.value) (knows_all f ms ts ks vs)) (IsFinal (program_of f.system.value) (knows_all f ms ts ks vs) values) (IsRaised (program_of f.system.value) (knows_all f ms ts ks vs) values) (IsElement (program_of f.system.value) (knows_all f ms ts ks vs) values) f.cells (word_at ks) (word_at vs)
 
 -- All that a pass knows stands in the words of these cells: it has the whole share, and each key that stands there it claimed itself.
-pub record IsTold (f : Frame) (ks vs : List ℕ) (v : View) : Type 0 where
+pub record IsTold (f : Frame) (ms : List CodedInstance) (ks vs : List ℕ) (v : View) : Type 0 where
   pub table : v.table ≡ f.table
   pub frame : v.frame ≡ Some f
   pub share : v.share ≡ 2 ^ 62
@@ -299,3 +299,4 @@ pub record IsTold (f : Frame) (ks vs : List ℕ) (v : View) : Type 0 where
   pub claims : (p : ℕ) → times p v.claims ≤ times p (places_from 0 ks)
   pub own : (p k : ℕ) → Has (keys_from 0 ks) (p, k) → times p v.claims ≢ 0
   pub to_seal : v.to_seal ≡ []
+  pub made : v.made ≡ ms

@@ -3,7 +3,9 @@ use Rattle.std.specs.Prelude.{◌≡◌, ◌≢◌, ℕ, zero, suc, ◌+◌, ◌
 use Rattle.std.specs.Int.{bit_at}
 use Rattle.std.specs.List.{list_any}
 use Rattle.std.specs.declared.snapshot.Snapshot.{Snapshot}
+use Rattle.equation_law.specs.declared.coding.Instance.{Instance as CodedInstance}
 use Rattle.equation_law.specs.declared.system.System.{System}
+use Rattle.made_trees.specs.Made.{Follow}
 use Rattle.memo_cells.specs.declared.view.Frame.{Frame}
 use Rattle.memo_cells.specs.declared.view.View.{View}
 use Rattle.memo_cells.specs.Keys.{is_attribute, is_set_word, start}
@@ -81,15 +83,16 @@ having_seen f keys values bits claims = record {
   held = None;
   written = [];
   rows = [];
+  made = [];
   spare = None;
   given_up = [];
   to_seal = [];
   draws = [];
 }
 
--- a pass that has the words itself knows all that stands there, and claimed it; these places it has still to seal
-abbrev pub knows_all : Frame → List ℕ → List ℕ → List ℕ → View
-knows_all f ts ks vs = record (having_seen f (keys_from 0 ks) (values_from 0 ks vs) (bits_from 0 ks vs) (places_from 0 ks)) { to_seal = ts }
+-- a pass that has the words itself knows all that stands there, and claimed it; these made its trees, and these places it has still to seal
+abbrev pub knows_all : Frame → List CodedInstance → List ℕ → List ℕ → List ℕ → View
+knows_all f ms ts ks vs = record (having_seen f (keys_from 0 ks) (values_from 0 ks vs) (bits_from 0 ks vs) (places_from 0 ks)) { made = ms; to_seal = ts }
 
 -- nothing is unlearnt
 pub record IsAtLeast (v w : View) : Type 0 where
@@ -99,6 +102,7 @@ pub record IsAtLeast (v w : View) : Type 0 where
   pub values : (p k c : ℕ) → Has v.values (p, k, c) → Has w.values (p, k, c)
   pub bits : (p k n : ℕ) → Has v.bits (p, k, n) → Has w.bits (p, k, n)
   pub claims : (p : ℕ) → times p v.claims ≤ times p w.claims
+  pub made : Follow v.made w.made
 
 -- the key k is seen claimed at place p
 abbrev pub IsSlot : Frame → View → ℕ → ℕ → Type 0

@@ -3,7 +3,7 @@ use Rattle.std.specs.Prelude.{◌≡◌, ℕ, IfNone, IfSome, List, Option}
 use Rattle.equation_law.specs.declared.coding.Instance.{Instance as CodedInstance}
 use Rattle.equation_law.specs.declared.system.System.{System}
 use Rattle.equation_law.specs.Checked.{HasSourcesAlone, IsInstance}
-use Rattle.equation_law.specs.Codes.{ByEachNaming, ByEachOrder, IsCoded, NamesInOrder, instance_by}
+use Rattle.equation_law.specs.Codes.{IsCoded, Naming, instance_by}
 use Rattle.equation_law.specs.Equations.{HasValue}
 use Rattle.equation_law.specs.Names.{Instance}
 use Rattle.equation_law.specs.Program.{Program}
@@ -13,6 +13,7 @@ use Rattle.equation_law.specs.Values.{Value}
 use Rattle.memo_cells.specs.declared.keys.Slot.{Slot}
 use Rattle.memo_cells.specs.declared.view.Frame.{Frame}
 use Rattle.memo_cells.specs.declared.view.View.{View}
+use Rattle.memo_cells.specs.Agreeing.{Agrees, ByEachAgreeing, IsKnownInstance, IsKnownNode}
 use Rattle.memo_cells.specs.Claiming.{ClaimsKeys}
 use Rattle.memo_cells.specs.Causes.{IsLogOn, WhyMissing}
 use Rattle.memo_cells.specs.Naming.{ClaimsKeysTo, IsCellOf, IsFormed, IsWayKey, LacksCell}
@@ -83,49 +84,57 @@ IsFullAt d e k = IsFull d.frame e.view k
 abbrev pub ClaimsOnlyAt : Held → Held → ℕ → Type 0
 ClaimsOnlyAt d e k = ClaimsOnly d.view e.view k
 
--- by each naming the instance that is coded so is one of the program
-abbrev pub IsInstanceByEach : Program → CodedInstance → Type 0
-IsInstanceByEach p i = ByEachNaming p (λ n. IsInstance p (instance_by p n i))
+-- by each naming that agrees with what is held
+abbrev pub ByEachAt : Held → (Naming → Type 0) → Type 0
+ByEachAt d holds = ByEachAgreeing (program_at d) d.view.made holds
 
--- of the program of the cells
+-- the instance that is coded so is one of the program
 abbrev pub IsInstanceAt : Held → CodedInstance → Type 0
-IsInstanceAt d i = IsInstanceByEach (program_at d) i
+IsInstanceAt d i = ByEachAt d (λ n. IsInstance (program_at d) (instance_by (program_at d) n i))
+
+-- the pass knows the node and the arguments of a coded instance
+abbrev pub IsKnownAt : Held → CodedInstance → Type 0
+IsKnownAt d i = IsKnownInstance (program_at d) d.view.made i
 
 -- it is coded well
 abbrev pub IsCodedAt : Held → CodedInstance → Type 0
 IsCodedAt d i = IsCoded (program_at d) i
 
--- by each naming its cell is seen claimed at place s: d is what was held before, and e what is held now
+-- its cell is seen claimed at place s: d is what was held before, and e what is held now
 abbrev pub IsCellAt : Held → Held → CodedInstance → ℕ → Type 0
-IsCellAt d e i s = ByEachNaming (program_at d) (λ n. IsCellOf (program_at d) d.frame e.view (instance_by (program_at d) n i) s)
+IsCellAt d e i s = ByEachAgreeing (program_at d) e.view.made (λ n. IsCellOf (program_at d) d.frame e.view (instance_by (program_at d) n i) s)
 
 -- its cell is seen claimed at place s now
 abbrev pub IsCellNow : Held → CodedInstance → ℕ → Type 0
 IsCellNow d i s = IsCellAt d d i s
 
--- by each naming its cell is seen settled
+-- its cell is seen settled
 abbrev pub KnowsAt : Held → CodedInstance → Type 0
-KnowsAt d i = ByEachNaming (program_at d) (λ n. Knows (program_at d) d.view (instance_by (program_at d) n i))
+KnowsAt d i = ByEachAt d (λ n. Knows (program_at d) d.view (instance_by (program_at d) n i))
 
--- by each naming other keys have all the cells than some key on the way to its cell
+-- other keys have all the cells than some key on the way to its cell
 abbrev pub LacksCellAt : Held → Held → CodedInstance → Type 0
-LacksCellAt d e i = ByEachNaming (program_at d) (λ n. LacksCell (program_at d) d.frame e.view (instance_by (program_at d) n i))
+LacksCellAt d e i = ByEachAgreeing (program_at d) e.view.made (λ n. LacksCell (program_at d) d.frame e.view (instance_by (program_at d) n i))
 
--- by each naming what was claimed are cells on the way to its cell
+-- what was claimed are cells on the way to its cell
 abbrev pub ClaimsKeysAt : Held → Held → CodedInstance → Type 0
-ClaimsKeysAt d e i = ByEachNaming (program_at d) (λ n. ClaimsKeysTo (program_at d) d.view e.view (instance_by (program_at d) n i))
+ClaimsKeysAt d e i = ByEachAgreeing (program_at d) e.view.made (λ n. ClaimsKeysTo (program_at d) d.view e.view (instance_by (program_at d) n i))
 
--- by each naming what was claimed are cells of its keys
+-- what was claimed are cells of its keys
 abbrev pub ClaimsKeysFor : Held → Held → CodedInstance → Type 0
-ClaimsKeysFor d e i = ByEachNaming (program_at d) (λ n. ClaimsKeys (program_at d) (instance_by (program_at d) n i) d.view e.view)
+ClaimsKeysFor d e i = ByEachAgreeing (program_at d) e.view.made (λ n. ClaimsKeys (program_at d) (instance_by (program_at d) n i) d.view e.view)
 
--- what looking for it finds, if it is coded well: where it finds a slot, its cell is seen claimed there
+-- what looking for it finds, if it is coded well and the pass knows its nodes: where it finds a slot, its cell is seen claimed there
 abbrev pub FindsCell : Held → Held → CodedInstance → Option Slot → Type 0
-FindsCell d e i found = IsCodedAt d i → IfSome found (λ s. IsCellAt d e i s.0)
+FindsCell d e i found = IsCodedAt d i → IsKnownAt d i → IfSome found (λ s. IsCellAt d e i s.0)
 
--- where it finds none, its cell is seen claimed nowhere, by each naming
+-- its cell is the one that was found at place s, and the pass knows its nodes: its codes are those of the key there
+abbrev pub IsItsCell : Held → Held → CodedInstance → ℕ → Type 0
+IsItsCell d e i s = IsKnownInstance (program_at d) e.view.made i × IsCellAt d e i s
+
+-- where it finds none, its cell is seen claimed nowhere
 abbrev pub MissesCell : Held → Held → CodedInstance → Option Slot → Type 0
-MissesCell d e i found = IsCodedAt d i → IfNone found ((s : ℕ) → ByEachNaming (program_at d) (λ n. ¬ IsCellOf (program_at d) d.frame e.view (instance_by (program_at d) n i) s))
+MissesCell d e i found = IsCodedAt d i → IsKnownAt d i → IfNone found ((s : ℕ) → ByEachAgreeing (program_at d) e.view.made (λ n. ¬ IsCellOf (program_at d) d.frame e.view (instance_by (program_at d) n i) s))
 
 -- why: for a key on the way to it, whatever its codes stand for
 abbrev pub WhyNoCell : Held → Held → CodedInstance → Option Slot → Type 0
@@ -172,8 +181,8 @@ abbrev pub ClaimsForSetAt : Held → Held → ℕ → Type 0
 ClaimsForSetAt d e place = ClaimsForSet d.frame d.view e.view place
 
 -- What a reader tells that holds a pass: it is for the program of the cells, it has the values of the instances whose cells are seen
--- settled, and reading lets the pass know no less. It may be read by each naming for the program whose codes are in the order of their nodes, and the
--- program makes nothing. The reader knows every code.
+-- settled, and reading lets the pass know no less. It may be read by each naming that agrees with what the pass knows, and knows the nodes that the pass
+-- knows. The program makes nothing.
 pub record TellsPass {S : Type 0} (held : S → Held) (d : S) (r : Told S) : Type 0 where
   pub for : IsOwn (held d) → r.for (program_at (held d))
   pub only : (p : Program) → r.for p → (p ≡ program_at (held d)) × HasSourcesAlone p
@@ -183,9 +192,10 @@ pub record TellsPass {S : Type 0} (held : S → Held) (d : S) (r : Told S) : Typ
   pub may : (i : Instance) (w : Value) → HasValue (program_at (held d)) i w → r.can i w
   pub keeps : (x : S) → r.keeps x → ReadsOn (held x) (held d)
   pub itself : IsOwn (held d) → r.keeps d
-  pub each : ByEachOrder (program_at (held d)) r.names
-  pub named : ByEachIn r (NamesInOrder (program_at (held d)))
-  pub knows : (c : ℕ) → r.knows c
+  pub each : ByEachAt (held d) r.names
+  pub named : ByEachIn r (Agrees (program_at (held d)) (held d).view.made)
+  pub knows : (c : ℕ) → IsKnownNode (held d).view.made c → r.knows c
+  pub known_alone : (c : ℕ) → r.knows c → IsKnownNode (held d).view.made c
 
 -- what such a reader tells, which is seen as what it holds
 abbrev pub told_by : Held → Told Held
@@ -194,7 +204,7 @@ told_by d = record {
   has = IsKnown (program_at d) d.view;
   can = HasValue (program_at d);
   keeps = λ x. ReadsOn x d;
-  names = NamesInOrder (program_at d);
-  knows = λ c. Unit {0};
+  names = Agrees (program_at d) d.view.made;
+  knows = IsKnownNode d.view.made;
   height = λ c. c;
 }

@@ -56,5 +56,5 @@ impl Model for Pass {
 
     ghost view = { λ p. p.known.value };
 
-    ghost invariant = { λ p. (0 < p.size) × (length p.keys.items ≡ p.size) × (length p.values.items ≡ p.size) × AreWords (framed p.system p.size) [] p.keys.items p.values.items × IsTold (framed p.system p.size) p.keys.items p.values.items p.known.value };
+    ghost invariant = { λ p. (0 < p.size) × (length p.keys.items ≡ p.size) × (length p.values.items ≡ p.size) × AreWords (framed p.system p.size) p.known.value.made [] p.keys.items p.values.items × IsTold (framed p.system p.size) p.known.value.made p.keys.items p.values.items p.known.value };
 }

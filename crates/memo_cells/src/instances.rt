@@ -1,7 +1,7 @@
 // The cells of instances: one key for the attribute at the node, and one for each argument.
 ghost use Rattle.std.specs.Prelude.{◌<◌, IfOk, IfSome, OnErr};
 ghost use Rattle.equation_law.specs.declared.coding.Instance.TheVariants.{Attr as attribute_at};
-ghost use Rattle.memo_cells.specs.Working.{ClaimsKeysAt, FindsCell, GoesOn, HasCell, IsCellAt, IsCodedAt, IsInstanceAt, IsOwn, IsPlainAt, LacksCellAt, MissesCell, ReadsOn, WhyNoCell};
+ghost use Rattle.memo_cells.specs.Working.{ClaimsKeysAt, FindsCell, GoesOn, HasCell, IsCellAt, IsCodedAt, IsInstanceAt, IsItsCell, IsKnownAt, IsOwn, IsPlainAt, LacksCellAt, MissesCell, ReadsOn, WhyNoCell};
 
 use crate::calls::CellsFull;
 use crate::keys::{Key, Slot};
@@ -19,6 +19,7 @@ fn claim_attribute<W: Work>(
     requires own { IsOwn (W.held work.old) }
     requires instance { IsInstanceAt (W.held work.old) (attribute_at attr node args) }
     requires coded { IsCodedAt (W.held work.old) (attribute_at attr node args) }
+    requires known { IsKnownAt (W.held work.old) (attribute_at attr node args) }
     ensures on { GoesOn (W.held work.old) (W.held work.new) }
     ensures slot { IfOk result (λ s. IsCellAt (W.held work.old) (W.held work.new) (attribute_at attr node args) s.0) }
     ensures full { OnErr result (LacksCellAt (W.held work.old) (W.held work.new) (attribute_at attr node args)) }
@@ -39,6 +40,7 @@ pub fn claim_instance<W: Work>(work: &mut W, i: Instance) -> Result<Slot, CellsF
     requires own { IsOwn (W.held work.old) }
     requires instance { IsInstanceAt (W.held work.old) i }
     requires coded { IsCodedAt (W.held work.old) i }
+    requires known { IsKnownAt (W.held work.old) i }
     ensures on { GoesOn (W.held work.old) (W.held work.new) }
     ensures slot { IfOk result (λ s. IsCellAt (W.held work.old) (W.held work.new) i s.0) }
     ensures full { OnErr result (LacksCellAt (W.held work.old) (W.held work.new) i) }
@@ -54,6 +56,7 @@ pub fn claim_instance<W: Work>(work: &mut W, i: Instance) -> Result<Slot, CellsF
 fn seek_attribute<W: Words>(work: &mut W, attr: AttrId, node: NodeRef, args: Args) -> Option<Slot>
     ensures on { ReadsOn (W.held work.old) (W.held work.new) }
     ensures slot { FindsCell (W.held work.old) (W.held work.new) (attribute_at attr node args) result }
+    ensures its { IfSome result (λ s. IsItsCell (W.held work.old) (W.held work.new) (attribute_at attr node args) s.0) }
     ensures none { MissesCell (W.held work.old) (W.held work.new) (attribute_at attr node args) result }
     ensures cause { WhyNoCell (W.held work.old) (W.held work.new) (attribute_at attr node args) result }
     ensures place { IfSome result (λ s. s.0 < (W.held work.old).frame.cells) }
@@ -74,6 +77,7 @@ fn seek_attribute<W: Words>(work: &mut W, attr: AttrId, node: NodeRef, args: Arg
 pub fn seek_instance<W: Words>(work: &mut W, i: Instance) -> Option<Slot>
     ensures on { ReadsOn (W.held work.old) (W.held work.new) }
     ensures slot { FindsCell (W.held work.old) (W.held work.new) i result }
+    ensures its { IfSome result (λ s. IsItsCell (W.held work.old) (W.held work.new) i s.0) }
     ensures none { MissesCell (W.held work.old) (W.held work.new) i result }
     ensures cause { WhyNoCell (W.held work.old) (W.held work.new) i result }
     ensures place { IfSome result (λ s. s.0 < (W.held work.old).frame.cells) }

@@ -164,10 +164,10 @@ impl Cells {
         known: &mut Snapshot<View>,
         set: &[Slot],
     )
-        requires noted { AreSealedTo self.now set.now 0 keys.now.items words.old.items }
-        requires told { IsTold self.now keys.now.items words.old.items known.old.value }
-        ensures sealed { SealsAll self.now set.now keys.now.items words.old.items words.new.items }
-        ensures told { TellsSealed self.now set.now (length set.now) keys.now.items words.new.items known.old.value known.new.value }
+        requires noted { AreSealedTo self.now known.old.value.made set.now 0 keys.now.items words.old.items }
+        requires told { IsTold self.now known.old.value.made keys.now.items words.old.items known.old.value }
+        ensures sealed { SealsAll self.now known.old.value.made set.now keys.now.items words.old.items words.new.items }
+        ensures told { TellsSealed self.now known.old.value.made set.now (length set.now) keys.now.items words.new.items known.old.value known.new.value }
     {
         for number in 0..set.len() {
             self.mark_one(keys, words, known, set, number);
@@ -184,11 +184,11 @@ impl Cells {
         number: usize,
     )
         requires number { number < length set.now }
-        requires noted { AreSealedTo self.now set.now number _keys.now.items words.old.items }
-        requires told { IsTold self.now _keys.now.items words.old.items known.old.value }
-        ensures sealed { SealsTo self.now set.now number (number + 1) _keys.now.items words.old.items words.new.items }
+        requires noted { AreSealedTo self.now known.old.value.made set.now number _keys.now.items words.old.items }
+        requires told { IsTold self.now known.old.value.made _keys.now.items words.old.items known.old.value }
+        ensures sealed { SealsTo self.now known.old.value.made set.now number (number + 1) _keys.now.items words.old.items words.new.items }
         ensures found { LogsNext self.now set.now number words.old.items known.old.value known.new.value }
-        ensures told { TellsNext self.now set.now number _keys.now.items words.new.items known.old.value known.new.value }
+        ensures told { TellsNext self.now known.old.value.made set.now number _keys.now.items words.new.items known.old.value known.new.value }
     {
         let place = set[number].0;
         let found = words[place as usize];

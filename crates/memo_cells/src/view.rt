@@ -2,7 +2,7 @@
 ghost use Rattle.std.specs.Prelude.{◌≡◌};
 ghost use Rattle.memo_cells.specs.Views.{first_view, framed};
 
-use equation_law::System;
+use equation_law::{Instance, System};
 use std::alloc::Global;
 use std::collections::LinkedList;
 use std::snapshot::Snapshot;
@@ -44,6 +44,8 @@ pub struct View {
     pub written: LinkedList<(u64, u64)>,
     /// Each word of a row that it saw: the tree, the word and what it holds.
     pub rows: LinkedList<(u64, u64, u64)>,
+    /// What made the trees that it knows, the last one first.
+    pub made: LinkedList<Instance>,
     /// The number of a tree that it drew and keeps for the next one.
     pub spare: Option<u64>,
     /// The numbers of trees that it gave up.
@@ -76,6 +78,7 @@ fn first_view(alloc: Global, system: Snapshot<System>, cells: u32) -> View
         held: None,
         written: LinkedList::new(alloc),
         rows: LinkedList::new(alloc),
+        made: LinkedList::new(alloc),
         spare: None,
         given_up: LinkedList::new(alloc),
         to_seal: LinkedList::new(alloc),

@@ -1,7 +1,19 @@
 use Rattle.memo_cells.proofs.Holding.{goes_then}
 use Rattle.memo_cells.proofs.Ways.{on_err}
-use Rattle.circular_eval.proofs.Admitting.{cell_before, claims_before, lacks_before}
+use Rattle.circular_eval.proofs.Admitting.{cell_before, claims_before, coded_after, instance_after, known_after, lacks_before}
 use Rattle.circular_eval.proofs.claiming.open_cell.Goals as goal
+
+pub claim_instance-requires-clause-instance : goal.claim_instance-requires-clause-instance
+claim_instance-requires-clause-instance g c =
+    instance_after (g.W.Words.held c.args.work.now) (g.W.Words.held c.is_unclaimed-is_new.new.work) c.is_unclaimed-is_new.ensures.on.on c.args.i c.requires.instance
+
+pub claim_instance-requires-clause-coded : goal.claim_instance-requires-clause-coded
+claim_instance-requires-clause-coded g c =
+    coded_after (g.W.Words.held c.args.work.now) (g.W.Words.held c.is_unclaimed-is_new.new.work) c.is_unclaimed-is_new.ensures.on.on c.args.i c.requires.coded
+
+pub claim_instance-requires-clause-known : goal.claim_instance-requires-clause-known
+claim_instance-requires-clause-known g c =
+    known_after (g.W.Words.held c.args.work.now) (g.W.Words.held c.is_unclaimed-is_new.new.work) c.is_unclaimed-is_new.ensures.on.on c.args.i c.requires.known
 
 pub returns-in_err-slot-clause-on : goal.returns-in_err-slot-clause-on
 returns-in_err-slot-clause-on g c =

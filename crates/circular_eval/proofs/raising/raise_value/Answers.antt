@@ -46,7 +46,7 @@ pub raise_set-requires-in-Nodes-Nodes-clause-own : goal.raise_set-requires-in-No
 raise_set-requires-in-Nodes-Nodes-clause-own g c = c.requires.own
 
 pub raise_set-requires-in-Nodes-Nodes-clause-may : goal.raise_set-requires-in-Nodes-Nodes-clause-may
-raise_set-requires-in-Nodes-Nodes-clause-may g c = (c.requires.may.2.0, nodes_show (g.W.Words.held c.args.work.now) c.requires.may.0 c.requires.may.1 c.requires.may.2.0 c.args.slot.0 c.in-Nodes-Nodes.set (coded.Nodes c.in-Nodes-Nodes.other) c.requires.own.bare (may_coded (g.W.Words.held c.args.work.now) c.requires.may.0 c.requires.may.2.0 c.args.slot.0 c.args.value.now c.args.other.now (coded.Nodes c.in-Nodes-Nodes.set) (coded.Nodes c.in-Nodes-Nodes.other) c.in-Nodes-Nodes.is-0 c.in-Nodes-Nodes.is-1 c.requires.may.2.1))
+raise_set-requires-in-Nodes-Nodes-clause-may g c = (c.requires.may.2.0, nodes_show (g.W.Words.held c.args.work.now) c.requires.may.0 c.requires.may.1 c.requires.may.2.0 c.args.slot.0 c.in-Nodes-Nodes.set (coded.Nodes c.in-Nodes-Nodes.other) (may_coded (g.W.Words.held c.args.work.now) c.requires.may.0 c.requires.may.2.0 c.args.slot.0 c.args.value.now c.args.other.now (coded.Nodes c.in-Nodes-Nodes.set) (coded.Nodes c.in-Nodes-Nodes.other) c.in-Nodes-Nodes.is-0 c.in-Nodes-Nodes.is-1 c.requires.may.2.1))
 
 pub returns-in_err-raise_set-in-Nodes-Nodes : goal.returns-in_err-raise_set-in-Nodes-Nodes
 returns-in_err-raise_set-in-Nodes-Nodes g c =

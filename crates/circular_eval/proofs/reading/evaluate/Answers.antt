@@ -2,16 +2,19 @@ use Rattle.std.proofs.Common.{refl, ap, sym, subst}
 use Rattle.equation_law.specs.Codes.{source_names}
 use Rattle.equation_law.specs.Program.{Program, text_of}
 use Rattle.expr_eval.specs.Saved.{AreSaved}
+use Rattle.equation_law.specs.declared.system.System.{System}
+use Rattle.memo_cells.specs.Agreeing.{IsKnownInstance}
 use Rattle.memo_cells.specs.Working.{ReadsOn}
 use Rattle.circular_eval.specs.declared.local.Local.{Local}
 use Rattle.circular_eval.specs.Local.{reads_here}
-use Rattle.circular_eval.specs.Looking.{ComesHere}
+use Rattle.circular_eval.specs.Looking.{ComesHere, told_here}
 use Rattle.circular_eval.proofs.Raised.{err_ok}
 use Rattle.circular_eval.proofs.Settling.{came_here}
 use Rattle.circular_eval.proofs.Tied.{no_collection}
 use Rattle.equation_law.specs.Systems.{program_of}
 use Rattle.memo_cells.proofs.Holding.{reads_itself}
-use Rattle.circular_eval.proofs.Looking.{here_instance, here_sound, saved_here, saved_there}
+use Rattle.circular_eval.proofs.Knowing.{instance_told}
+use Rattle.circular_eval.proofs.Looking.{here_sound, saved_here, saved_there}
 use Rattle.circular_eval.proofs.reading.evaluate.Goals as goal
 
 pub resume_instance-turn-requires-clause-sound : goal.resume_instance-turn-requires-clause-sound
@@ -21,7 +24,10 @@ pub resume_instance-turn-requires-clause-coded : goal.resume_instance-turn-requi
 resume_instance-turn-requires-clause-coded g c = c.requires.coded
 
 pub resume_instance-turn-requires-clause-known : goal.resume_instance-turn-requires-clause-known
-resume_instance-turn-requires-clause-known g c = here_instance {S = Unit} (g.W.Words.held c.args.work.now) c.args.system.now c.args.local.now.members.entries (λ u. Unit {0}) (program_of c.args.system.now) c.args.i.now
+resume_instance-turn-requires-clause-known g c =
+    let d = g.W.Words.held c.args.work.now in
+    instance_told {S = Unit} (told_here d c.args.system.now c.args.local.now.members.entries (λ u. Unit {0})) d.view.made (λ k known. known) (program_of c.args.system.now) c.args.i.now
+    (subst (λ (s : System). IsKnownInstance (program_of s) d.view.made c.args.i.now) c.requires.same c.requires.known)
 
 pub resume_instance-turn-requires-clause-single : goal.resume_instance-turn-requires-clause-single
 resume_instance-turn-requires-clause-single g c = λ n is. no_collection (program_of c.args.system.now) (source_names (text_of (program_of c.args.system.now))) n c.args.i.now c.requires.single

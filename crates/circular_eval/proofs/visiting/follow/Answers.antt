@@ -38,4 +38,4 @@ returns-else-is_declared g c =
 
 pub unreachable-requires : goal.unreachable-requires
 unreachable-requires g c =
-    no_image (g.W.Words.held c.args.work.now) c.args.local.now c.args.number c.in-Image.field-0 (turn_is (g.W.Words.held c.args.work.now) c.args.local.now c.args.number c.args.turn (turns.Image c.in-Image.field-0) c.in-Image.is c.requires.came)
+    no_image (g.W.Words.held c.args.work.now) c.requires.ready.own c.args.local.now c.args.number c.in-Image.field-0 (turn_is (g.W.Words.held c.args.work.now) c.args.local.now c.args.number c.args.turn (turns.Image c.in-Image.field-0) c.in-Image.is c.requires.came)

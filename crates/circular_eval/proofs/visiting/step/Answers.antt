@@ -4,7 +4,7 @@ use Rattle.expr_eval.specs.Saved.{AreSaved}
 use Rattle.circular_eval.specs.declared.advancing.CircFault.TheVariants.{Memory}
 use Rattle.circular_eval.specs.Local.{Members, reads_here}
 use Rattle.circular_eval.proofs.Going.{ready_then}
-use Rattle.circular_eval.proofs.Passing.{came_read, coded_member, final_entry, goes_read, kept_members, no_entry, read_refused, same_step, single_member, step_saved, step_then}
+use Rattle.circular_eval.proofs.Passing.{came_read, coded_member, final_entry, goes_read, kept_members, known_member, no_entry, read_refused, same_step, single_member, step_saved, step_then}
 use Rattle.circular_eval.proofs.Raised.{err_is}
 use Rattle.circular_eval.proofs.visiting.step.Goals as goal
 
@@ -27,6 +27,10 @@ evaluate-requires-clause-same g c =
 pub evaluate-requires-clause-coded : goal.evaluate-requires-clause-coded
 evaluate-requires-clause-coded g c =
     coded_member c.args.system.now (g.W.Words.held c.args.work.now) c.args.local.now c.requires.ready c.args.number (c.in-Some.instance.now, c.in-Some.member.now) (sym c.in-Some.ensures)
+
+pub evaluate-requires-clause-known : goal.evaluate-requires-clause-known
+evaluate-requires-clause-known g c =
+    known_member c.args.system.now (g.W.Words.held c.args.work.now) c.args.local.now c.requires.ready c.args.number (c.in-Some.instance.now, c.in-Some.member.now) (sym c.in-Some.ensures)
 
 pub evaluate-requires-clause-single : goal.evaluate-requires-clause-single
 evaluate-requires-clause-single g c =

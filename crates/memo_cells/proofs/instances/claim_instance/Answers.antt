@@ -1,12 +1,11 @@
-use Rattle.std.proofs.Common.{rules, IfOk, OnErr, sym, subst}
+use Rattle.std.proofs.Common.{rules, [], IfOk, OnErr, sym, subst}
 use Rattle.std.proofs.lemmas.Result.{on_err_weaker}
 use Rattle.equation_law.specs.declared.coding.Instance.{Instance as CodedInstance}
-use Rattle.equation_law.specs.Codes.{source_names}
 use Rattle.equation_law.specs.Names.{Query}
-use Rattle.equation_law.specs.Program.{text_of}
-use Rattle.equation_law.proofs.Codes.{sources_named}
-use Rattle.memo_cells.specs.Working.{ClaimsKeysAt, IsCellAt, IsInstanceAt, LacksCellAt, program_at}
+use Rattle.made_trees.specs.Made.{naming_by_makers}
+use Rattle.memo_cells.specs.Working.{ClaimsKeysAt, IsCellAt, IsInstanceAt, IsKnownAt, LacksCellAt, program_at}
 use Rattle.memo_cells.specs.Keys.{query_word}
+use Rattle.memo_cells.proofs.Agreeing.{own_open}
 use Rattle.memo_cells.proofs.Ways.{claims_key, query_formed, query_key}
 use Rattle.memo_cells.proofs.instances.claim_instance.Goals as goal
 
@@ -14,7 +13,7 @@ pub claim-requires-clause-key : goal.claim-requires-clause-key
 claim-requires-clause-key g c =
     let d = g.W.Words.held c.args.work.now in
     let p = program_at d in
-    query_formed p d.view c.in-Query.query.0 (search rules) ((subst (IsInstanceAt d) c.in-Query.is c.requires.instance) (source_names (text_of p)) (sources_named p))
+    query_formed p d.view c.in-Query.query.0 (search rules) ((subst (IsInstanceAt d) c.in-Query.is c.requires.instance) (naming_by_makers p d.view.made) (own_open d.frame d.view [] c.requires.own))
 
 pub returns-in-Query-clause-full : goal.returns-in-Query-clause-full
 returns-in-Query-clause-full g c =
@@ -48,3 +47,6 @@ returns-in-Attr-clause-full g c =
 
 pub returns-in-Attr-clause-claims : goal.returns-in-Attr-clause-claims
 returns-in-Attr-clause-claims g c = subst (ClaimsKeysAt (g.W.Words.held c.args.work.now) (g.W.Words.held c.claim_attribute.new.work)) (sym c.in-Attr.is) c.claim_attribute.ensures.claims
+
+pub claim_attribute-requires-clause-known : goal.claim_attribute-requires-clause-known
+claim_attribute-requires-clause-known g c = subst (IsKnownAt (g.W.Words.held c.args.work.now)) c.in-Attr.is c.requires.known

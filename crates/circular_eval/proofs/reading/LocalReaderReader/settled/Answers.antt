@@ -16,4 +16,4 @@ pub returns-in_err-copy : goal.returns-in_err-copy
 returns-in_err-copy g c = same_settles (g.W.Words.held c.args.self.now.work.now) c.args.self.now.system.now c.args.self.now.local.now.members.entries _ c.args.i.now c.from_residual-in_err-copy.result c.from_residual-in_err-copy.ensures.0
 
 pub returns : goal.returns
-returns g c = member_settles (g.W.Words.held c.args.self.now.work.now) c.args.self.now.system.now c.args.self.now.local.now.members.entries _ c.args.i.now (sym c.is_declared.ensures ∙ c.if-not-is_declared.false) c.in_ok-copy.field-0 c.in-Some.ensures.member (λ p pooled coded names named kept. c.in-Some.ensures.value p pooled coded names named kept ∙ sym (c.in_ok-copy.ensures.same names)) (λ p names kept. c.in_ok-copy.ensures.elements p (c.in-Some.ensures.elements p names kept))
+returns g c = member_settles (g.W.Words.held c.args.self.now.work.now) c.args.self.now.system.now c.args.self.now.local.now.members.entries _ c.args.i.now (sym c.is_declared.ensures ∙ c.if-not-is_declared.false) c.in_ok-copy.field-0 c.in-Some.value.now c.in-Some.number c.in-Some.ensures.at c.in_ok-copy.ensures.same c.in-Some.ensures.member (λ p pooled coded names named kept. c.in-Some.ensures.value p pooled coded names named kept ∙ sym (c.in_ok-copy.ensures.same names)) (λ p names kept. c.in_ok-copy.ensures.elements p (c.in-Some.ensures.elements p names kept))
