@@ -62,7 +62,7 @@ typed_as p bare _ _ (tree c r ts h) = absurd (let made = h.made in let none = ne
 typed_as p bare _ _ (nodes c s h) = refl
 
 known_has : (p : Program) → HasSourcesAlone p → (names : Naming) (f : Frame) (v : View) (i : Instance) (x : CodedValue) → IsProgram p → IsInstance p i → IsKnownValue p names v i x → AnswersNoted p names f v i (Ok x)
-known_has p bare names f v i x good instance k = (subst (HasValue p i) (sym (k.coded ∙ typed_as p bare (kind_in p i) k.value (value_typed p good i instance k.value k.known.1))) k.known.1, k.known.0, k.elements)
+known_has p bare names f v i x good instance k = (subst (HasValue p i) (sym (k.coded ∙ typed_as p bare (kind_in p i) k.value (value_typed p good i instance k.value k.known.1))) k.known.1, k.known.0, k.elements, k.nodes)
 
 -- the answer that stood there
 pub asked_known : (p : Program) → HasSourcesAlone p → (names : Naming) (f : Frame) (v w : View) (i : Instance) (x : CodedValue) (n : ℕ) → IsProgram p → IsInstance p i → IsKnownValue p names w i x → w.claims ≡ v.claims → AsksNoted p names f v w i n n (Ok x)
@@ -138,7 +138,7 @@ module _ (p : Program) (names : Naming) (f : Frame) (v w : View) (i : Instance) 
   asks_memory h = record { answer = h.answer; circular = h.circular; claims = h.claims; known = h.known; loads = h.loads; cost = h.cost }
 
 -- what the loop of an answer says of the instances in its chain
-pub may_note : (p : Program) (f : Frame) (v w : View) (i : CodedInstance) (m n : ℕ) (r : Result CodedValue AskFault) → AsksNotedByEach p f v w i m n r → MayNote p r
+pub may_note : (p : Program) (f : Frame) (v w : View) (i : CodedInstance) (m n : ℕ) (r : Result CodedValue AskFault) → AsksNotedByEach p f v w i m n r → MayNote p w.made r
 may_note p f v w i m n (Ok x) h = tt
 may_note p f v w i m n (Err (Circular on chain)) h = λ j there names named.
     each_has p (instance_by p names i) (instance_by p names on) (map (instance_by p names) chain) (h names named).answer (instance_by p names j) (has_map (instance_by p names) chain j there)

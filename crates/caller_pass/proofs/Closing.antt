@@ -3,13 +3,14 @@ use Rattle.std.proofs.Common.{◌≡◌, ℕ, ◌+◌, ◌*◌, ◌<◌, ◌≤�
 use Rattle.std.specs.Result.{IsErr, IsErrAnd, IsOk}
 use Rattle.solutions.specs.Leading.{none}
 use Rattle.equation_law.specs.declared.coding.Instance.{Instance as CodedInstance}
-use Rattle.equation_law.specs.Codes.{IsNamingOf, Naming, instance_by}
+use Rattle.equation_law.specs.Codes.{Naming, instance_by}
 use Rattle.equation_law.specs.Loops.{Chain}
 use Rattle.equation_law.specs.Names.{Instance}
 use Rattle.equation_law.specs.Program.{Program}
 use Rattle.equation_law.specs.Systems.{program_of}
 use Rattle.memo_cells.specs.declared.view.Frame.{Frame}
 use Rattle.memo_cells.specs.declared.view.View.{View}
+use Rattle.memo_cells.specs.Agreeing.{Agrees}
 use Rattle.memo_cells.specs.Causes.{IsLogOn, WhyUnsettled}
 use Rattle.memo_cells.specs.Claiming.{ClaimsKeys}
 use Rattle.memo_cells.specs.Naming.{IsCellOf}
@@ -30,11 +31,11 @@ use Rattle.caller_pass.proofs.Falling.{unsettled_falls, unsettled_less}
 use Rattle.caller_pass.proofs.Going.{solve_fault, was_within}
 
 -- the fault of a local set
-pub same_fault : (p : Program) (names : Naming) (named : IsNamingOf p names) (f : Frame) (v : View) (i : CodedInstance) (from : CircFault) (e : AskFault) → IsSameFault from e → AnswersCircular p i f v from → StopsAt p names f v (instance_by p names i) e
-same_fault p names named f v i set_fault.CellsFull e is a = subst (λ (x : AskFault). StopsAt p names f v (instance_by p names i) x) (sym is) (a names named)
-same_fault p names named f v i set_fault.Memory e is a = subst (λ (x : AskFault). StopsAt p names f v (instance_by p names i) x) (sym is) tt
+pub same_fault : (p : Program) (names : Naming) (f : Frame) (v : View) (named : Agrees p v.made names) (i : CodedInstance) (from : CircFault) (e : AskFault) → IsSameFault from e → AnswersCircular p i f v from → StopsAt p names f v (instance_by p names i) e
+same_fault p names f v named i set_fault.CellsFull e is a = subst (λ (x : AskFault). StopsAt p names f v (instance_by p names i) x) (sym is) (a names named)
+same_fault p names f v named i set_fault.Memory e is a = subst (λ (x : AskFault). StopsAt p names f v (instance_by p names i) x) (sym is) tt
 
-module _ (p : Program) (names : Naming) (named : IsNamingOf p names) (f : Frame) (same : p ≡ program_of f.system.value) (v w : View) (own : IsPassOf f v) (then : IsPassOf f w) (kept : IsAtLeast v w) (start : CodedInstance) (unknown : ¬ Knows p v (instance_by p names start)) (claims : ClaimsKeys p (instance_by p names start) v w) (before after : ℕ) (evals : after ≡ before + 1) where
+module _ (p : Program) (names : Naming) (f : Frame) (same : p ≡ program_of f.system.value) (v w : View) (named : Agrees p w.made names) (own : IsPassOf f v) (then : IsPassOf f w) (kept : IsAtLeast v w) (start : CodedInstance) (unknown : ¬ Knows p v (instance_by p names start)) (claims : ClaimsKeys p (instance_by p names start) v w) (before after : ℕ) (evals : after ≡ before + 1) where
   abbrev i : Instance
   i = instance_by p names start
 
@@ -48,7 +49,7 @@ module _ (p : Program) (names : Naming) (named : IsNamingOf p names) (f : Frame)
   pub closes_fault : (e : CircFault) (r : Result Unit AskFault) → IsErr r × IsErrAnd r (λ x. IsSameFault e x) → AnswersCircular p start f w e → ClosesMore p names f v w i before after r
   closes_fault e (Ok x) h a = let none = h.0 in cc
   closes_fault e (Err d) h a = record {
-    fault = λ x is. let same_one : d ≡ x = cc in subst (λ (y : AskFault). StopsAt p names f w i y) same_one (same_fault p names named f w start e d h.1 a);
+    fault = λ x is. let same_one : d ≡ x = cc in subst (λ (y : AskFault). StopsAt p names f w i y) same_one (same_fault p names f w named start e d h.1 a);
     claims = claims;
     cost = λ ok. cc;
     known = λ ok k. cc;

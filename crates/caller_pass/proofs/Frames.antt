@@ -10,6 +10,8 @@ use Rattle.memo_cells.specs.declared.view.View.{View}
 use Rattle.memo_cells.specs.Naming.{IsCellOf}
 use Rattle.memo_cells.specs.Standing.{Knows}
 use Rattle.memo_cells.specs.Views.{Has, IsAtLeast}
+use Rattle.memo_cells.specs.Agreeing.{IsKnownInstance}
+use Rattle.memo_cells.proofs.Agreeing.{instance_known_later}
 use Rattle.memo_cells.proofs.Naming.{cell_later}
 use Rattle.circular_eval.specs.declared.local.Local.{Local}
 use Rattle.circular_eval.proofs.Later.{local_later}
@@ -25,7 +27,7 @@ use Rattle.caller_pass.proofs.Lines.{has_last, has_snoc}
 
 module _ (p : Program) (names : Naming) (f : Frame) (v w : View) (kept : IsAtLeast v w) where
   pub placed_later : (e : CodedInstance × Waiter) → IsPlaced p names f v e → IsPlaced p names f w e
-  placed_later e h = record { instance = h.instance; coded = h.coded; undeclared = h.undeclared; slot = cell_later v w kept p f (instance_by p names e.0) e.1.slot.0 h.slot; left = left_known p v w kept f.system.value e.0 e.1.left h.left }
+  placed_later e h = record { instance = h.instance; coded = h.coded; known = instance_known_later p kept.made e.0 h.known; undeclared = h.undeclared; slot = cell_later v w kept p f (instance_by p names e.0) e.1.slot.0 h.slot; left = left_known p v w kept f.system.value e.0 e.1.left h.left }
 
   pub waits_later : (i : Instance) (way : Option Local) (n : Instance) → WaitsBy p names f v i way n → WaitsBy p names f w i way n
   waits_later i None n h = h
@@ -65,7 +67,7 @@ module _ (p : Program) (names : Naming) (f : Frame) (v w : View) (kept : IsAtLea
   placed_now : (y : Waiter) → y.slot ≡ x.slot → IsLeft f.system.value (reads_known p w) t y.left → IsPlaced p names f w (t, y)
   placed_now y same left =
       let h = placed_later p names f v w kept (t, x) stack.frame.placed in
-      record { instance = h.instance; coded = h.coded; undeclared = h.undeclared; slot = subst (λ (s : Slot). IsCellOf p f w (instance_by p names t) s.0) (sym same) h.slot; left = left }
+      record { instance = h.instance; coded = h.coded; known = h.known; undeclared = h.undeclared; slot = subst (λ (s : Slot). IsCellOf p f w (instance_by p names t) s.0) (sym same) h.slot; left = left }
 
   -- it goes on in another state
   pub stack_on : (y : Waiter) → y.slot ≡ x.slot → IsLeft f.system.value (reads_known p w) t y.left → IsWayOf p names f w (instance_by p names t) (way_of y) → IsStack p names f w i es (t, y)
@@ -99,12 +101,13 @@ module _ (p : Program) (names : Naming) (f : Frame) (v w : View) (kept : IsAtLea
       }
 
   -- it is settled, and the one that waited for it is on top again
-  pub stack_fewer : (ds : List (CodedInstance × Waiter)) (last : CodedInstance × Waiter) → es ≡ ds ++ last ∷ [] → waits ds last.0 ≡ false → (y : Waiter) → LooksAgain p names w last.1 y → IsStack p names f w i ds (last.0, y)
-  stack_fewer ds last is other y looks =
+  pub stack_fewer : (ds : List (CodedInstance × Waiter)) (last : CodedInstance × Waiter) → es ≡ ds ++ last ∷ [] → waits ds last.0 ≡ false → (y : Waiter) (u : View) → IsAtLeast v u → LooksAgain p names u w last.1 y → IsStack p names f w i ds (last.0, y)
+  stack_fewer ds last is other y u before looks =
       let starts = ap (λ l. l ++ (t, x) ∷ []) (sym is) ∙ stack.starts in
       let fewer = front_starts ds last stack.first stack.rest (t, x) starts in
       let begun = last_starts ds last.0 last.1 y stack.first fewer.0 fewer.1 in
       let front = waiting_front p names f w ds last (instance_by p names t) (subst (λ l. AreWaiting p names f w l (instance_by p names t)) is (waiting_later p names f v w kept es (instance_by p names t) stack.waiting)) in
+      let then = waiting_front p names f u ds last (instance_by p names t) (subst (λ l. AreWaiting p names f u l (instance_by p names t)) is (waiting_later p names f v u before es (instance_by p names t) stack.waiting)) in
       let its = placed_later p names f v w kept last (stack.placed last (subst (λ l. Has l last) (sym is) (has_last ds last))) in
       record {
         first = begun.0;
@@ -114,16 +117,16 @@ module _ (p : Program) (names : Naming) (f : Frame) (v w : View) (kept : IsAtLea
         placed = λ e h. placed_later p names f v w kept e (stack.placed e (subst (λ l. Has l e) (sym is) (has_left ds (last ∷ []) e h)));
         waiting = front.0;
         frame = record {
-          placed = record { instance = its.instance; coded = its.coded; undeclared = its.undeclared; slot = subst (λ (s : Slot). IsCellOf p f w (instance_by p names last.0) s.0) (sym looks.slot) its.slot; left = subst (λ (o : Option Left). IsLeft f.system.value (reads_known p w) last.0 o) (sym looks.left) its.left };
-          way = way_on (way_of last.1) (way_of y) looks.way front.1;
+          placed = record { instance = its.instance; coded = its.coded; known = its.known; undeclared = its.undeclared; slot = subst (λ (s : Slot). IsCellOf p f w (instance_by p names last.0) s.0) (sym looks.slot) its.slot; left = subst (λ (o : Option Left). IsLeft f.system.value (reads_known p w) last.0 o) (sym looks.left) its.left };
+          way = way_on (way_of last.1) (way_of y) looks.way front.1 then.1;
         };
         other = other;
       }
     where
-      way_on : (old new : Option Local) → WayStays p names w old new → WaitsBy p names f w (instance_by p names last.0) old (instance_by p names t) → IsWayOf p names f w (instance_by p names last.0) new
-      way_on None new stays h = subst (λ o. IsWayOf p names f w (instance_by p names last.0) o) (sym stays) tt
-      way_on (Some l) None stays h = tt
-      way_on (Some l) (Some m) stays h = subst (λ (n : Local). IsWay p names f w (instance_by p names last.0) n) (sym stays.0) (record { local = h.1; led = h.0; unknown = stays.1 h.1.coded })
+      way_on : (old new : Option Local) → WayStays p names u w old new → WaitsBy p names f w (instance_by p names last.0) old (instance_by p names t) → WaitsBy p names f u (instance_by p names last.0) old (instance_by p names t) → IsWayOf p names f w (instance_by p names last.0) new
+      way_on None new stays h hu = subst (λ o. IsWayOf p names f w (instance_by p names last.0) o) (sym stays) tt
+      way_on (Some l) None stays h hu = tt
+      way_on (Some l) (Some m) stays h hu = subst (λ (n : Local). IsWay p names f w (instance_by p names last.0) n) (sym stays.0) (record { local = h.1; led = h.0; unknown = stays.1 h.1.coded hu.1.known })
 
 -- the first stack
 pub stack_one : (p : Program) (names : Naming) (f : Frame) (v : View) (i : CodedInstance) (x : Waiter) → IsPlaced p names f v (i, x) → way_of x ≡ None → IsStack p names f v (instance_by p names i) [] (i, x)
@@ -139,11 +142,11 @@ stack_one p names f v i x placed none = record {
 }
 
 -- a local set whose start is seen sealed isn't waited for any more
-pub looked_known : (p : Program) (names : Naming) (f : Frame) (w u : View) → u ≡ w → (x : Waiter) (l : Local) → way_of x ≡ Some l → (i : CodedInstance) → i ≡ l.start → (r : Option (Slot × ℕ)) → is_some r ≡ true → (IsCoded p i → FindsCode p f w (instance_by p names i) r) → LooksAgain p names u x (record { slot = x.slot; way = None; left = x.left })
-looked_known p names f w u is x l way i start r there finds = record {
+pub looked_known : (p : Program) (names : Naming) (f : Frame) (v w u : View) → u ≡ w → (x : Waiter) (l : Local) → way_of x ≡ Some l → (i : CodedInstance) → i ≡ l.start → (r : Option (Slot × ℕ)) → is_some r ≡ true → (IsCoded p i → IsKnownInstance p v.made i → FindsCode p f w (instance_by p names i) r) → LooksAgain p names v u x (record { slot = x.slot; way = None; left = x.left })
+looked_known p names f v w u is x l way i start r there finds = record {
   slot = refl;
   left = refl;
-  way = subst (λ (o : Option Local). WayStays p names u o None) (sym way) (λ coded. subst (λ (v : View). Knows p v (instance_by p names l.start)) (sym is) (subst (λ (j : CodedInstance). IsCoded p j → Knows p w (instance_by p names j)) start (λ good. known r there (finds good)) coded));
+  way = subst (λ (o : Option Local). WayStays p names v u o None) (sym way) (λ coded its. subst (λ (a : View). Knows p a (instance_by p names l.start)) (sym is) (subst (λ (j : CodedInstance). IsCoded p j → IsKnownInstance p v.made j → Knows p w (instance_by p names j)) start (λ good its. known r there (finds good its)) coded its));
 }
   where
     known : (r : Option (Slot × ℕ)) → is_some r ≡ true → FindsCode p f w (instance_by p names i) r → Knows p w (instance_by p names i)
@@ -151,15 +154,15 @@ looked_known p names f w u is x l way i start r there finds = record {
     known (Some e) there h = found_knows p f w (instance_by p names i) e.0.0 e.1 h
 
 -- without one, or where its start isn't, it stays as it is
-pub looked_none : (p : Program) (names : Naming) (u : View) (x : Waiter) → way_of x ≡ None → LooksAgain p names u x x
-looked_none p names u x way = record { slot = refl; left = refl; way = subst (λ (o : Option Local). WayStays p names u o o) (sym way) refl }
+pub looked_none : (p : Program) (names : Naming) (v u : View) (x : Waiter) → way_of x ≡ None → LooksAgain p names v u x x
+looked_none p names v u x way = record { slot = refl; left = refl; way = subst (λ (o : Option Local). WayStays p names v u o o) (sym way) refl }
 
-pub looked_unknown : (p : Program) (names : Naming) (f : Frame) (w u : View) → u ≡ w → (x : Waiter) (l : Local) → way_of x ≡ Some l → (i : CodedInstance) → i ≡ l.start → (r : Option (Slot × ℕ)) → is_some r ≡ false → (IsCoded p i → FindsCode p f w (instance_by p names i) r) → LooksAgain p names u x x
-looked_unknown p names f w u is x l way i start r none finds = record {
+pub looked_unknown : (p : Program) (names : Naming) (f : Frame) (v w u : View) → u ≡ w → (x : Waiter) (l : Local) → way_of x ≡ Some l → (i : CodedInstance) → i ≡ l.start → (r : Option (Slot × ℕ)) → is_some r ≡ false → (IsCoded p i → IsKnownInstance p v.made i → FindsCode p f w (instance_by p names i) r) → LooksAgain p names v u x x
+looked_unknown p names f v w u is x l way i start r none finds = record {
   slot = refl;
   left = refl;
-  way = subst (λ (o : Option Local). WayStays p names u o o) (sym way)
-      (refl, λ coded. subst (λ (v : View). ¬ Knows p v (instance_by p names l.start)) (sym is) (subst (λ (j : CodedInstance). IsCoded p j → ¬ Knows p w (instance_by p names j)) start (λ good. unknown r none (finds good)) coded));
+  way = subst (λ (o : Option Local). WayStays p names v u o o) (sym way)
+      (refl, λ coded its. subst (λ (a : View). ¬ Knows p a (instance_by p names l.start)) (sym is) (subst (λ (j : CodedInstance). IsCoded p j → IsKnownInstance p v.made j → ¬ Knows p w (instance_by p names j)) start (λ good its. unknown r none (finds good its)) coded its));
 }
   where
     unknown : (r : Option (Slot × ℕ)) → is_some r ≡ false → FindsCode p f w (instance_by p names i) r → ¬ Knows p w (instance_by p names i)

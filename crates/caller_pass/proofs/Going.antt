@@ -5,7 +5,7 @@ use Rattle.rag_io.specs.Pool.{ArePooled}
 use Rattle.solutions.specs.Leading.{none}
 use Rattle.equation_law.specs.declared.coding.Instance.{Instance as CodedInstance}
 use Rattle.equation_law.specs.Checked.{IsInstance}
-use Rattle.equation_law.specs.Codes.{ByEachNaming, IsCoded, IsNamingOf, Naming, instance_by}
+use Rattle.equation_law.specs.Codes.{IsCoded, IsNamingOf, Naming, instance_by}
 use Rattle.equation_law.specs.Equations.{equations_of}
 use Rattle.equation_law.specs.Loops.{Chain, HasLoop}
 use Rattle.equation_law.specs.Names.{Instance}
@@ -14,12 +14,14 @@ use Rattle.equation_law.specs.Systems.{program_of}
 use Rattle.equation_law.proofs.Solution.{loopless}
 use Rattle.memo_cells.specs.declared.view.Frame.{Frame}
 use Rattle.memo_cells.specs.declared.view.View.{View}
+use Rattle.memo_cells.specs.Agreeing.{ByEachAgreeing, IsKnownInstance}
 use Rattle.memo_cells.specs.Causes.{IsLogOn}
 use Rattle.memo_cells.specs.Claiming.{ClaimsKeys}
 use Rattle.memo_cells.specs.Naming.{ClaimsKeysTo, IsCellOf}
 use Rattle.memo_cells.specs.Standing.{IsPassOf, Knows}
 use Rattle.memo_cells.specs.Views.{Has, IsAtLeast}
 use Rattle.memo_cells.specs.Working.{Held, program_at}
+use Rattle.memo_cells.proofs.Agreeing.{instance_known_later}
 use Rattle.memo_cells.proofs.Causes.{found_before, found_later, log_itself, log_then}
 use Rattle.memo_cells.proofs.Claiming.{chain_then, claims_same, claims_then, claims_to, fills_more, fills_to}
 use Rattle.memo_cells.proofs.More.{at_least_itself, at_least_then}
@@ -82,7 +84,7 @@ pub record WentThrough (p : Program) (names : Naming) (f : Frame) (w u : View) (
   pub answer : AnswersStep p names f u (instance_by p names t) (way_of x) (way_of y) r
   pub evals : after ≡ before + 1
 
-pub through : (d e : Held) (f : Frame) (t : CodedInstance) (x y : Waiter) (before after : ℕ) (r : Result Went AskFault) → d.frame ≡ f → Evaluates (program_at d) d e t x y before after r → ByEachNaming (program_of f.system.value) (λ names. WentThrough (program_of f.system.value) names f d.view e.view t x y before after r)
+pub through : (d e : Held) (f : Frame) (t : CodedInstance) (x y : Waiter) (before after : ℕ) (r : Result Went AskFault) → d.frame ≡ f → Evaluates (program_at d) d e t x y before after r → ByEachAgreeing (program_of f.system.value) e.view.made (λ names. WentThrough (program_of f.system.value) names f d.view e.view t x y before after r)
 through d e f t x y before after r is h names named =
     let g = subst (λ (g : Frame). Evaluates (program_of g.system.value) (record { frame = g; view = d.view; lender = d.lender }) e t x y before after r) is h in
     record {
@@ -106,7 +108,7 @@ pub record CameSettled (p : Program) (names : Naming) (f : Frame) (w u : View) (
   pub known : Knows p u (instance_by p names t)
   pub evals : (after ≡ before) ⊎ ((after ≡ before + 1) × (way_of x ≡ None) × WasUnsettled p f w u (instance_by p names t))
 
-pub came_settled : (d e : Held) (f : Frame) (t : CodedInstance) (x y : Waiter) (before after : ℕ) (r : Result Went AskFault) → d.frame ≡ f → r ≡ Ok Settled → TakesTurn (program_at d) d e t x y before after r → ByEachNaming (program_of f.system.value) (λ names. CameSettled (program_of f.system.value) names f d.view e.view t x before after)
+pub came_settled : (d e : Held) (f : Frame) (t : CodedInstance) (x y : Waiter) (before after : ℕ) (r : Result Went AskFault) → d.frame ≡ f → r ≡ Ok Settled → TakesTurn (program_at d) d e t x y before after r → ByEachAgreeing (program_of f.system.value) e.view.made (λ names. CameSettled (program_of f.system.value) names f d.view e.view t x before after)
 came_settled d e f t x y before after r is went turn names named =
     let p = program_of f.system.value in
     ⊎_elim
@@ -117,7 +119,7 @@ came_settled d e f t x y before after r is went turn names named =
       kept = g.read.on.kept;
       log = g.read.on.log;
       claims = claims_same p (instance_by p names t) d.view e.view g.read.claims;
-      known = subst (λ (c : Frame). ByEachNaming (program_of c.system.value) (λ n. Knows (program_of c.system.value) e.view (instance_by (program_of c.system.value) n t))) g.read.on.cells g.known names named;
+      known = subst (λ (c : Frame). ByEachAgreeing (program_of c.system.value) e.view.made (λ n. Knows (program_of c.system.value) e.view (instance_by (program_of c.system.value) n t))) g.read.on.cells g.known names named;
       evals = inl g.evals;
     })
     (λ h.
@@ -148,9 +150,9 @@ waited_loop p names f g v u i (e ∷ es) t x y on line stack waiting lines why p
     subst (λ (j : Instance). EndsAtLoop p j (instance_by p names on) line) (ap (λ (d : CodedInstance × Waiter). instance_by p names d.0) first ∙ stack.is) (met_loop p names e (es ++ (t, y) ∷ []) on line (lines g u waiting) why plain)
 
 -- before the first turn
-pub begun : (p : Program) (names : Naming) (f : Frame) (v w : View) → p ≡ program_of f.system.value → IsPassOf f v → IsPassOf f w → IsAtLeast v w → IsLogOn v w → (i : CodedInstance) (x : Waiter) → IsInstance p (instance_by p names i) → IsCoded p i → (equations_of p).circular (instance_by p names i) ≡ false → IsCellOf p f w (instance_by p names i) x.slot.0 → way_of x ≡ None → x.left ≡ None → ClaimsKeysTo p v w (instance_by p names i) → (evals : ℕ) → IsSolving p names f v w (instance_by p names i) [] (i, x) evals evals
-begun p names f v w same own then kept log i x instance coded plain cell way fresh claims evals =
-    let placed : IsPlaced p names f w (i, x) = record { instance = instance; coded = coded; undeclared = plain; slot = cell; left = none_left _ _ _ x.left fresh } in
+pub begun : (p : Program) (names : Naming) (f : Frame) (v w : View) → p ≡ program_of f.system.value → IsPassOf f v → IsPassOf f w → IsAtLeast v w → IsLogOn v w → (i : CodedInstance) (x : Waiter) → IsInstance p (instance_by p names i) → IsCoded p i → IsKnownInstance p w.made i → (equations_of p).circular (instance_by p names i) ≡ false → IsCellOf p f w (instance_by p names i) x.slot.0 → way_of x ≡ None → x.left ≡ None → ClaimsKeysTo p v w (instance_by p names i) → (evals : ℕ) → IsSolving p names f v w (instance_by p names i) [] (i, x) evals evals
+begun p names f v w same own then kept log i x instance coded known plain cell way fresh claims evals =
+    let placed : IsPlaced p names f w (i, x) = record { instance = instance; coded = coded; known = known; undeclared = plain; slot = cell; left = none_left _ _ _ x.left fresh } in
     record {
       own = then;
       kept = kept;
@@ -239,7 +241,7 @@ module _ {p : Program} {names : Naming} (named : IsNamingOf p names) {f : Frame}
       -- the next one is on top
       module _ (z : Waiter) (cell : IsCellOf p f o (instance_by p names n) z.slot.0) (way : way_of z ≡ None) (free : waits (es ++ (t, y) ∷ []) n ≡ false) (fresh : z.left ≡ None) where
         placed : IsPlaced p names f o (n, z)
-        placed = record { instance = next.instance; coded = next.coded; undeclared = next.undeclared; slot = cell; left = none_left _ _ _ z.left fresh }
+        placed = record { instance = next.instance; coded = next.coded; known = instance_known_later p later.made n next.known; undeclared = next.undeclared; slot = cell; left = none_left _ _ _ z.left fresh }
 
         unknown : ¬ Knows p w (instance_by p names n)
         unknown k = next.unknown (knows_later w u g.kept p (instance_by p names n) k)
@@ -285,7 +287,7 @@ module _ {p : Program} {names : Naming} (named : IsNamingOf p names) {f : Frame}
   cheap = ⊎_elim inl (λ more. inr (more.0, more.1)) g.evals
 
   -- the one that waited for it is on top again
-  module _ {o : View} (own : IsPassOf f o) (later : IsAtLeast u o) (log : IsLogOn u o) (quiet : o.claims ≡ u.claims) (ds : List (CodedInstance × Waiter)) (last : CodedInstance × Waiter) (is : es ≡ ds ++ last ∷ []) (free : waits ds last.0 ≡ false) (z : Waiter) (looks : LooksAgain p names o last.1 z) where
+  module _ {o : View} (own : IsPassOf f o) (later : IsAtLeast u o) (log : IsLogOn u o) (quiet : o.claims ≡ u.claims) (ds : List (CodedInstance × Waiter)) (last : CodedInstance × Waiter) (is : es ≡ ds ++ last ∷ []) (free : waits ds last.0 ≡ false) (z : Waiter) (looks : LooksAgain p names u o last.1 z) where
     then_kept : IsAtLeast w o
     then_kept = at_least_then g.kept later
 
@@ -293,7 +295,7 @@ module _ {p : Program} {names : Naming} (named : IsNamingOf p names) {f : Frame}
     its_known = knows_later u o later p (instance_by p names t) g.known
 
     stack_back : IsStack p names f o i ds (last.0, z)
-    stack_back = stack_fewer p names f w o then_kept i es t x s.stack ds last is free z looks
+    stack_back = stack_fewer p names f w o then_kept i es t x s.stack ds last is free z u g.kept looks
 
     -- one waits, so what was asked for was loaded before
     was_back : WasUnsettled p f v o i
@@ -310,7 +312,7 @@ module _ {p : Program} {names : Naming} (named : IsNamingOf p names) {f : Frame}
       stack = stack_back;
       claims = claims_then p i i v u o none all_claims later (claims_same p i u o quiet);
       loads = inr was_back;
-      paid = λ hs out. ⊎_elim inl (λ pays. inr (pays_back p names named f same pooled w o s.own own then_kept i hs out.leads es t x s.stack now (before + 2 * unsettled v f.cells) pays its_known after cheap ds last is z looks stack_back)) (s.paid hs out);
+      paid = λ hs out. ⊎_elim inl (λ pays. inr (pays_back p names named f same pooled w o s.own own then_kept i hs out.leads es t x s.stack now (before + 2 * unsettled v f.cells) pays its_known after cheap ds last is z u g.kept looks stack_back)) (s.paid hs out);
     }
 
     pub fell_back : measure o ds (last.0, z) f.cells < measure w es (t, x) f.cells

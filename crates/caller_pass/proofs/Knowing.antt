@@ -1,5 +1,5 @@
 -- What a pass knows of instances.
-use Rattle.std.proofs.Common.{◌≡◌, ℕ, ◌<◌, ◌^◌, Bool, true, false, not, List, Some, refl, sym, ap, subst, ◌∙◌}
+use Rattle.std.proofs.Common.{◌≡◌, ℕ, ◌<◌, ◌^◌, Bool, true, false, not, List, [], Some, refl, sym, ap, subst, ◌∙◌}
 use Rattle.rag_io.specs.Pool.{ArePooled}
 use Rattle.solutions.specs.Asking.{Demands, Ends, Halts, Meets, at, after, here, later}
 use Rattle.solutions.proofs.Loops.{ends_meets}
@@ -8,35 +8,37 @@ use Rattle.equation_law.specs.declared.coding.Instance.{Instance as CodedInstanc
 use Rattle.equation_law.specs.declared.coding.Instance.TheVariants as coded_instance
 use Rattle.equation_law.specs.declared.coding.Value.{Value as CodedValue}
 use Rattle.equation_law.specs.declared.system.System.{System}
-use Rattle.equation_law.specs.Checked.{HasSourcesAlone, IsInstance, IsProgram, IsValue, int, node, nodes, text, texts, tree, truth}
-use Rattle.equation_law.specs.Codes.{AreElements, ByEachNaming, ByEachOrder, IsNamingOf, IsSmall, IsValueCode, Naming, instance_by, instance_of, source_names, value_by, value_coded}
+use Rattle.equation_law.specs.Checked.{IsInstance}
+use Rattle.equation_law.specs.Codes.{AreElements, IsSmall, Naming, instance_by, instance_of, source_names, value_by, value_coded}
 use Rattle.equation_law.specs.Equations.{HasValue, equations_of, is_ordered, kind_in}
 use Rattle.equation_law.specs.Loops.{Leads}
 use Rattle.equation_law.specs.Names.{Instance}
 use Rattle.equation_law.specs.Program.{Program, text_of}
 use Rattle.equation_law.specs.Systems.{program_of}
 use Rattle.equation_law.specs.Values.{Value, as_kind}
-use Rattle.equation_law.proofs.QueryValues.{value_typed}
 use Rattle.equation_law.proofs.Solution.{ended, met_leads, one}
-use Rattle.equation_law.proofs.Sources.{source_naming}
-use Rattle.equation_law.proofs.Tied.{instance_tied, value_tied}
 use Rattle.attr_rules.specs.declared.kinds.Kind.{Kind}
 use Rattle.attr_rules.specs.declared.kinds.Kind.TheVariants as kinds
 use Rattle.attr_rules.specs.Rules.{is_single}
-use Rattle.memo_cells.specs.declared.keys.Slot.{Slot}
 use Rattle.memo_cells.specs.declared.view.Frame.{Frame}
 use Rattle.memo_cells.specs.declared.view.View.{View}
+use Rattle.memo_cells.specs.Agreeing.{Agrees, HaveCodesAt, IsKnownCode, IsKnownValue as HasKnownNodes, IsValueCodeAt}
 use Rattle.memo_cells.specs.Naming.{IsCellOf, StandsFor}
 use Rattle.memo_cells.specs.Showing.{ShowsAtLeast}
-use Rattle.memo_cells.specs.Standing.{AreApproximations, HaveCodes, IsCodeOf, IsPassOf, Knows, MaySettle}
+use Rattle.memo_cells.specs.Standing.{AreApproximations, IsCodeOf, IsPassOf, Knows, MaySettle}
 use Rattle.memo_cells.specs.Views.{Has, IsAtLeast, IsUnset, IsUnsettled}
-use Rattle.memo_cells.specs.Working.{Held, IsInstanceByEach, IsKnown, program_at}
+use Rattle.memo_cells.specs.Working.{Held, IsKnown, program_at}
+use Rattle.memo_cells.proofs.Agreeing.{IsOpen, coded_each, own_open, value_known_later}
 use Rattle.memo_cells.proofs.Naming.{knows_later, stands_later, word_once}
 use Rattle.memo_cells.proofs.ValueWords.{codes_had}
 use Rattle.memo_cells.specs.SetShown.{IsShownValue}
-use Rattle.circular_eval.proofs.Tied.{typed_tied}
-use Rattle.caller_pass.specs.Holding.{FindsCodeAt, IsKindAt, IsKnownCell}
+use Rattle.caller_pass.specs.Holding.{IsKindAt}
 use Rattle.caller_pass.specs.Knowing.{HasEnded, IsKnownValue, IsSettledAt}
+use Rattle.caller_pass.proofs.Nodes.{code_known, coded_known}
+
+-- some naming agrees with a pass of the cells of a program
+pub open_in : (p : Program) (f : Frame) (v : View) → p ≡ program_of f.system.value → IsPassOf f v → IsOpen p v.made
+open_in p f v same own = subst (λ (q : Program). IsOpen q v.made) (sym same) (own_open f v [] own)
 
 -- the cell of what is known
 pub known_cell : (p : Program) (f : Frame) (v : View) (i : Instance) → IsPassOf f v → (k : Knows p v i) → IsCellOf p f v i k.slot
@@ -48,27 +50,27 @@ known_cell p f v i own k =
 pub unknown_nowhere : (p : Program) (f : Frame) (v : View) (i : Instance) → IsPassOf f v → ((s : ℕ) → ¬ IsCellOf p f v i s) → ¬ Knows p v i
 unknown_nowhere p f v i own none k = none k.slot (known_cell p f v i own k)
 
-pub unknown_unset : (p : Program) (f : Frame) (v : View) (i : Instance) (key : ℕ) → IsPassOf f v → ArePooled p.texts → StandsFor p v key i → IsUnset v key → ¬ Knows p v i
-unknown_unset p f v i key own pooled s none k =
-    let word = word_once v own.one_key own.one_place p pooled k.key key i k.stands s in
+pub unknown_unset : (p : Program) (f : Frame) (v : View) (i : Instance) (key : ℕ) → IsPassOf f v → ArePooled p.texts → IsOpen p v.made → StandsFor p v key i → IsUnset v key → ¬ Knows p v i
+unknown_unset p f v i key own pooled by s none k =
+    let word = word_once v own.one_key own.one_place p pooled by k.key key i k.stands s in
     none k.slot k.code (subst (λ (l : ℕ). Has v.values (k.slot, l, k.code)) word k.settled)
 
 -- an instance has one cell
-pub one_cell : (p : Program) (f : Frame) (v : View) (i : Instance) (s t : ℕ) → IsPassOf f v → ArePooled p.texts → IsCellOf p f v i s → IsCellOf p f v i t → s ≡ t
-one_cell p f v i s t own pooled a b =
-    let word = word_once v own.one_key own.one_place p pooled a.0 b.0 i a.2 b.2 in
+pub one_cell : (p : Program) (f : Frame) (v : View) (i : Instance) (s t : ℕ) → IsPassOf f v → ArePooled p.texts → IsOpen p v.made → IsCellOf p f v i s → IsCellOf p f v i t → s ≡ t
+one_cell p f v i s t own pooled by a b =
+    let word = word_once v own.one_key own.one_place p pooled by a.0 b.0 i a.2 b.2 in
     own.one_place s t b.0 (subst (λ (k : ℕ). Has v.keys (s, k)) word a.1.1) b.1.1
 
 module _ (p : Program) (f : Frame) (v : View) (same : p ≡ program_of f.system.value) (own : IsPassOf f v) where
   -- a settled code is that of the value of what its key stands for
-  pub code_of : (i : Instance) (slot key code : ℕ) → StandsFor p v key i → Has v.values (slot, key, code) → IsCodeOf p i code
-  code_of i slot key code s h = subst (λ (q : Program). IsCodeOf q i code) (sym same) (own.coded slot key code h i (subst (λ (q : Program). StandsFor q v key i) same s))
+  pub code_of : (i : Instance) (slot key code : ℕ) → StandsFor p v key i → Has v.values (slot, key, code) → IsCodeOf p v.made i code
+  code_of i slot key code s h = subst (λ (q : Program). IsCodeOf q v.made i code) (sym same) (own.coded slot key code h i (subst (λ (q : Program). StandsFor q v key i) same s))
 
   pub has_value : (i : Instance) → Knows p v i → (w : Value) × HasValue p i w
   has_value i k = let code = code_of i k.slot k.key k.code k.stands k.settled in (code.value, code.has)
 
   -- a settled code, read at the type of the instance
-  pub known_value_is : (names : Naming) → IsNamingOf p names → (i : Instance) (slot code : ℕ) (kind : Kind) (x : CodedValue) → IsSettledAt p f v i slot code → kind ≡ kind_in p i → is_single kind ≡ true → ((n : Naming) → value_by n x ≡ value_coded n kind code) → AreElements p x
+  pub known_value_is : (names : Naming) → Agrees p v.made names → (i : Instance) (slot code : ℕ) (kind : Kind) (x : CodedValue) → IsSettledAt p f v i slot code → kind ≡ kind_in p i → is_single kind ≡ true → ((n : Naming) → value_by n x ≡ value_coded n kind code) → AreElements p x
       → IsKnownValue p names v i x
   known_value_is names named i slot code kind x s kinds single is elements =
       let of = code_of i slot s.key code s.stands s.settled in
@@ -77,6 +79,7 @@ module _ (p : Program) (f : Frame) (v : View) (same : p ≡ program_of f.system.
         known = (record { key = s.key; stands = s.stands; slot = slot; code = code; settled = s.settled }, of.has);
         coded = is names ∙ ap (λ (k : Kind). value_coded names k code) kinds ∙ of.coded (ap is_single (sym kinds) ∙ single) names named;
         elements = elements;
+        nodes = coded_known p v.made kind code x single (is (source_names (text_of p))) (subst (λ (k : Kind). IsKnownCode v.made k code) (sym kinds) of.known);
       }
 
   -- what a look at the cell of an instance told, where `u` is what the pass knew before it
@@ -91,7 +94,7 @@ module _ (p : Program) (f : Frame) (v : View) (same : p ≡ program_of f.system.
     seen_code code settled = record { key = its.0; there = (its.1.0, kept.keys slot its.0 its.1.1); stands = stands; settled = settled its.0 its.1.1 }
 
     pub seen_unset : ArePooled p.texts → IsUnsettled u v slot → ¬ Knows p v i
-    seen_unset pooled none = unknown_unset p f v i its.0 own pooled stands (none.unset its.0 its.1.1)
+    seen_unset pooled none = unknown_unset p f v i its.0 own pooled (open_in p f v same own) stands (none.unset its.0 its.1.1)
 
 -- an instance whose cell was settled is known
 pub settled_knows : (p : Program) (f : Frame) (u v : View) (i : Instance) (slot code : ℕ) → IsAtLeast u v → IsCellOf p f u i slot → ((k : ℕ) → Has u.keys (slot, k) → Has v.values (slot, k, code)) → Knows p v i
@@ -110,27 +113,8 @@ stuck_leads p v i j ds h = met_leads p i j (halts_meets (λ k w a. a.1) h)
 pub ended_value : (p : Program) (names : Naming) (v : View) (i : Instance) (x : CodedValue) → HasEnded p names v i x → HasValue p i (value_by names x)
 ended_value p names v i x e = ended p i (value_by names x) e.demands (ends_more (λ k w a. a.1) e.ends)
 
--- an equation that ended with a value by one naming ended with it by each
-pub ended_each : (p : Program) → HasSourcesAlone p → IsProgram p → (names : Naming) → IsNamingOf p names → (v : View) (i : CodedInstance) (x : CodedValue) → IsInstance p (instance_by p names i) → HasEnded p names v (instance_by p names i) x → ByEachNaming p (λ others. HasEnded p others v (instance_by p others i) x)
-ended_each p bare good names named v i x instance e others other =
-    let j = instance_by p names i in
-    let typed = value_typed p good j instance (value_by names x) (ended_value p names v j x e) in
-    let value : value_by others x ≡ value_by names x = typed_tied p bare named (kind_in p j) x e.elements typed others other in
-    let same : instance_by p others i ≡ j = instance_tied p bare named i instance others other in
-    record {
-      demands = e.demands;
-      ends = subst (λ (k : Instance). Ends (IsKnown p v) ((equations_of p).equation k) (value_by others x) e.demands) (sym same) (subst (λ (w : Value). Ends (IsKnown p v) ((equations_of p).equation j) w e.demands) (sym value) e.ends);
-      elements = e.elements;
-    }
-
--- so it did where it did by each naming whose codes are in the order of their nodes
-pub ended_by_each : (p : Program) → HasSourcesAlone p → IsProgram p → (v : View) (i : CodedInstance) (x : CodedValue) → IsInstanceByEach p i → ByEachOrder p (λ names. HasEnded p names v (instance_by p names i) x) → ByEachNaming p (λ names. HasEnded p names v (instance_by p names i) x)
-ended_by_each p bare good v i x instance h =
-    let plain = source_naming p in
-    ended_each p bare good (source_names (text_of p)) plain.0 v i x (instance (source_names (text_of p)) plain.0) (h (source_names (text_of p)) plain.0 plain.1)
-
 -- the elements of a value have codes, once the words of a set show it
-codes_of : (p : Program) (v : View) (a : AreApproximations p v) (i : Instance) (x : Value) (k : Kind) → kind_in p i ≡ k → (is_single k ≡ false → ShowsAtLeast p v i k x) → HaveCodes p k x
+codes_of : (p : Program) (v : View) (a : AreApproximations p v) (i : Instance) (x : Value) (k : Kind) → kind_in p i ≡ k → (is_single k ≡ false → ShowsAtLeast p v i k x) → HaveCodesAt p v.made k x
 codes_of p v a i x kinds.Truth e shown = tt
 codes_of p v a i x kinds.Int e shown = tt
 codes_of p v a i x kinds.Text e shown = tt
@@ -138,24 +122,10 @@ codes_of p v a i x (kinds.Node d) e shown = tt
 codes_of p v a i x kinds.Texts e shown = codes_had p v a i x kinds.Texts e (shown refl)
 codes_of p v a i x (kinds.Nodes d) e shown = codes_had p v a i x (kinds.Nodes d) e (shown refl)
 
--- a value of a type, read at it, is one
-read_typed : (p : Program) (k : Kind) (x : Value) → IsValue p k x → IsValue p k (as_kind k x)
-read_typed p _ _ (truth b) = truth b
-read_typed p _ _ (int z h) = int z h
-read_typed p _ _ (text t h) = text t h
-read_typed p _ _ (node c r h) = node c r h
-read_typed p _ _ (texts s h) = texts s h
-read_typed p _ _ (tree c r ts h) = node c r h.root
-read_typed p _ _ (nodes c s h) = nodes c s h
-
--- so its code is tied to it
-code_tied : (p : Program) → HasSourcesAlone p → {names : Naming} → IsNamingOf p names → (k : Kind) (code : ℕ) (x : Value) → IsValue p k x → value_coded names k code ≡ as_kind k x → IsValueCode p k code (as_kind k x)
-code_tied p bare named k code x typed is n other = value_tied p bare named k code (subst (IsValue p k) (sym is) (read_typed p k x typed)) n other ∙ is
-
 -- its code may be settled, once the words of a set show it
-pub may_settle : (p : Program) → HasSourcesAlone p → (names : Naming) → IsNamingOf p names → IsProgram p → (f : Frame) (u v : View) (i : Instance) (slot code : ℕ) (kind : Kind) (x : CodedValue) → AreApproximations p v → IsInstance p i → IsAtLeast u v → IsCellOf p f v i slot → HasEnded p names u i x → (equations_of p).circular i ≡ false
-    → kind ≡ kind_in p i → (is_single kind ≡ true → value_coded names kind code ≡ as_kind kind (value_by names x)) → IsSmall kind code → code < 2 ^ 32 → (is_single kind ≡ false → ShowsAtLeast p v i kind (value_by names x)) → MaySettle p v slot code
-may_settle p bare names named good f u v i slot code kind x words instance kept cell done plain kinds is small fits shown = record {
+pub may_settle : (p : Program) (names : Naming) (f : Frame) (u v : View) → Agrees p v.made names → (i : Instance) (slot code : ℕ) (kind : Kind) (x : CodedValue) → AreApproximations p v → IsInstance p i → IsAtLeast u v → IsCellOf p f v i slot → HasEnded p names u i x → (equations_of p).circular i ≡ false
+    → kind ≡ kind_in p i → (is_single kind ≡ true → value_coded names kind code ≡ as_kind kind (value_by names x)) → (is_single kind ≡ true → value_coded (source_names (text_of p)) kind code ≡ as_kind kind (value_by (source_names (text_of p)) x)) → IsSmall kind code → code < 2 ^ 32 → (is_single kind ≡ false → ShowsAtLeast p v i kind (value_by names x)) → MaySettle p v slot code
+may_settle p names f u v agrees i slot code kind x words instance kept cell done plain kinds is plainly small fits shown = record {
   key = cell.0;
   here = cell.1.1;
   settled = record {
@@ -165,8 +135,8 @@ may_settle p bare names named good f u v i slot code kind x words instance kept 
     code = record {
       value = value_by names x;
       has = ended_value p names u i x done;
-      coded = subst (λ (k : Kind). is_single k ≡ true → IsValueCode p k code (as_kind k (value_by names x))) kinds
-          (λ single. code_tied p bare named kind code (value_by names x) (subst (λ (k : Kind). IsValue p k (value_by names x)) (sym kinds) (value_typed p good i instance (value_by names x) (ended_value p names u i x done))) (is single));
+      coded = subst (λ (k : Kind). is_single k ≡ true → IsValueCodeAt p v.made k code (as_kind k (value_by names x))) kinds (λ single. coded_each p v.made agrees kind code (as_kind kind (value_by names x)) code_there (is single));
+      known = subst (λ (k : Kind). IsKnownCode v.made k code) kinds code_there;
       small = subst (λ (k : Kind). IsSmall k code) kinds small;
       fits = fits;
       elements = codes_of p v words i (value_by names x) (kind_in p i) refl (subst (λ (k : Kind). is_single k ≡ false → ShowsAtLeast p v i k (value_by names x)) kinds shown);
@@ -176,6 +146,9 @@ may_settle p bare names named good f u v i slot code kind x words instance kept 
   };
   undeclared = plain;
 }
+  where
+    code_there : IsKnownCode v.made kind code
+    code_there = code_known p v.made kind code x plainly (value_known_later p kept.made x done.nodes)
 
 -- where an equation halts under what is known, nothing is known
 pub halts_unknown : (p : Program) (f : Frame) (v : View) (c : Demands Instance Value) (j : Instance) (ds : List Instance) → p ≡ program_of f.system.value → IsPassOf f v → Halts (IsKnown p v) c j ds → ¬ Knows p v j
@@ -190,8 +163,8 @@ pub found_knows : (p : Program) (f : Frame) (v : View) (i : Instance) (slot code
 found_knows p f v i slot code s = record { key = s.key; stands = s.stands; slot = slot; code = code; settled = s.settled }
 
 -- the value that the words of a set show, whose cell was seen settled
-pub known_shown : (p : Program) (names : Naming) → IsNamingOf p names → (v w : View) (i : Instance) (x : CodedValue) → IsAtLeast v w → Knows p v i → IsShownValue p v w i x → IsKnownValue p names w i x
-known_shown p names named v w i x kept k h = let value = h.settled k in record { value = value.0; known = (knows_later v w kept p i k, value.1); coded = value.2 names named; elements = h.elements }
+pub known_shown : (p : Program) (names : Naming) (v w : View) → Agrees p w.made names → (i : Instance) (x : CodedValue) → IsAtLeast v w → Knows p v i → IsShownValue p v w i x → IsKnownValue p names w i x
+known_shown p names v w agrees i x kept k h = let value = h.settled k in record { value = value.0; known = (knows_later v w kept p i k, value.1); coded = value.2 names agrees; elements = h.elements; nodes = h.known }
 
 -- the type of the values of an instance hangs on no naming
 pub kind_same : (p : Program) (names others : Naming) (i : CodedInstance) → kind_in p (instance_by p names i) ≡ kind_in p (instance_by p others i)
@@ -202,14 +175,6 @@ kind_same p names others (coded_instance.Query q) = refl
 pub kind_each : (d : Held) (s : System) (i : CodedInstance) (kind : Kind) → d.frame.system.value ≡ s → kind ≡ kind_in (program_of s) (instance_of (program_of s) i) → IsKindAt d i kind
 kind_each d s i kind same is = λ names named.
     subst (λ (t : System). kind ≡ kind_in (program_of t) (instance_of (program_of t) i)) (sym same) is ∙ kind_same (program_at d) (source_names (text_of (program_at d))) names i
-
--- the cell of what was found settled, as it is seen then
-pub found_settled : (d e : Held) (i : CodedInstance) (slot : Slot) (code : ℕ) → e.frame ≡ d.frame → FindsCodeAt d e i (Some (slot, code)) → IsKnownCell e i slot
-found_settled d e i slot code cells h =
-    let here : FindsCodeAt e e i (Some (slot, code)) = subst (λ (f : Frame). FindsCodeAt (record { frame = f; view = d.view; lender = d.lender }) e i (Some (slot, code))) (sym cells) h in
-    λ good names named.
-    let s = here good names named in
-    ((s.key, s.there, s.stands), found_knows (program_at e) e.frame e.view (instance_by (program_at e) names i) slot.0 code s)
 
 -- sets are ordered
 pub set_ordered : (k : Kind) → is_single k ≡ false → is_ordered k ≡ true

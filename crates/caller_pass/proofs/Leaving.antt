@@ -10,6 +10,7 @@ use Rattle.expr_eval.proofs.Found.{none_saved}
 use Rattle.expr_eval.proofs.Growing.{saved_more}
 use Rattle.memo_cells.specs.declared.view.View.{View}
 use Rattle.memo_cells.specs.Views.{IsAtLeast}
+use Rattle.memo_cells.proofs.Agreeing.{agrees_before, node_known_later}
 use Rattle.memo_cells.proofs.Naming.{knows_later}
 use Rattle.collection_attrs.specs.declared.surveys.Survey.{Survey}
 use Rattle.collection_attrs.proofs.Grown.{surveyed_more}
@@ -36,7 +37,7 @@ left_here d s i x h = left_later {r = told_by d} {t = reads_known (program_at d)
 -- and so where more is known
 pub left_known : (p : Program) (v w : View) → IsAtLeast v w → (s : System) (i : CodedInstance) (m : Option Left) → IsLeft s (reads_known p v) i m → IsLeft s (reads_known p w) i m
 left_known p v w kept s i None h = tt
-left_known p v w kept s i (Some x) h = left_later {r = reads_known p v} {t = reads_known p w} (λ j c k. (knows_later v w kept p j k.0, k.1)) (λ n is. is) (λ k known. known) i x h
+left_known p v w kept s i (Some x) h = left_later {r = reads_known p v} {t = reads_known p w} (λ j c k. (knows_later v w kept p j k.0, k.1)) (λ n is. agrees_before p kept.made is) (λ k known. node_known_later p kept.made k known) i x h
 
 -- nothing was left behind
 pub none_left : {S : Type 0} (s : System) (t : Told S) (i : CodedInstance) (m : Option Left) → m ≡ None → IsLeft s t i m

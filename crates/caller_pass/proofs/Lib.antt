@@ -14,6 +14,7 @@ pub mod Lines
 pub mod Listing
 pub mod Members
 pub mod Needing
+pub mod Nodes
 pub mod Noted
 pub mod Overfull
 pub mod Paid

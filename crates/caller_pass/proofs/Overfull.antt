@@ -6,7 +6,6 @@ use Rattle.equation_law.specs.Keys.{AreDifferent, IsAmong, IsAsked, IsJust, IsKe
 use Rattle.equation_law.specs.Loops.{Chain}
 use Rattle.equation_law.specs.Names.{At, Instance, Query}
 use Rattle.equation_law.specs.Program.{Program}
-use Rattle.equation_law.proofs.Tied.{one_tied_code}
 use Rattle.memo_cells.specs.declared.view.Frame.{Frame}
 use Rattle.memo_cells.specs.declared.view.View.{View}
 use Rattle.memo_cells.specs.Claiming.{ClaimsKeys, ClaimsKeysOf, IsKeyOf, IsKeyOfPart}
@@ -14,6 +13,7 @@ use Rattle.memo_cells.specs.Keys.{set_word}
 use Rattle.memo_cells.specs.Naming.{IsWordOf}
 use Rattle.memo_cells.specs.Standing.{IsPassOf}
 use Rattle.memo_cells.specs.Views.{Has, IsAtLeast, IsFull, first_view, times}
+use Rattle.memo_cells.proofs.Agreeing.{IsOpen, one_code}
 use Rattle.memo_cells.proofs.Claiming.{LeadsToAll, claims_on_of, key_of_more}
 use Rattle.memo_cells.proofs.Naming.{word_once}
 use Rattle.caller_pass.specs.Overfull.{IsOverfull}
@@ -30,7 +30,7 @@ asked_key p v q k within h = key_of_more p (IsAsked p) (IsJust (Query q)) (one_a
 pub asked_more : (p : Program) (u v w : View) (q : ℕ) → q < length p.queries → ClaimsKeysOf p (IsAsked p) u v → IsAtLeast v w → ClaimsKeys p (Query q) v w → ClaimsKeysOf p (IsAsked p) u w
 asked_more p u v w q within before kept now = claims_on_of p (IsAsked p) (IsJust (Query q)) u v w (one_asked p q within) before kept now
 
-module _ (p : Program) (pooled : ArePooled p.texts) (f : Frame) (v w : View) (first : v ≡ first_view f) (own : IsPassOf f w) (kept : IsAtLeast v w) (claims : ClaimsKeysOf p (IsAsked p) v w) where
+module _ (p : Program) (pooled : ArePooled p.texts) (f : Frame) (v w : View) (first : v ≡ first_view f) (own : IsPassOf f w) (by : IsOpen p w.made) (kept : IsAtLeast v w) (claims : ClaimsKeysOf p (IsAsked p) v w) where
   -- each claimed key is that of what a query demands
   all_asked : (x k : ℕ) → Has w.keys (x, k) → IsKeyOf p w (IsAsked p) k
   all_asked x k has =
@@ -40,14 +40,14 @@ module _ (p : Program) (pooled : ArePooled p.texts) (f : Frame) (v w : View) (fi
 
   one_set_word : (k l : ℕ) (i : Instance) (n : ℕ) → IsWordOf p w k i n → IsWordOf p w l i n → k ≡ l
   one_set_word k l i n a b =
-      let key : a.key ≡ b.key = word_once w own.one_key own.one_place p pooled a.key b.key i a.stands b.stands in
+      let key : a.key ≡ b.key = word_once w own.one_key own.one_place p pooled by a.key b.key i a.stands b.stands in
       let slot : a.slot ≡ b.slot = own.one_place a.slot b.slot b.key (subst (λ (j : ℕ). Has w.keys (a.slot, j)) key a.there) b.there in
       a.is ∙ ap (λ (s : ℕ). set_word s n) slot ∙ sym b.is
 
   one_word : (k l : ℕ) (x : Part) → IsKeyOfPart p w k x → IsKeyOfPart p w l x → k ≡ l
-  one_word k l (Prefix i) a b = word_once w own.one_key own.one_place p pooled k l i a b
+  one_word k l (Prefix i) a b = word_once w own.one_key own.one_place p pooled by k l i a b
   one_word k l (Word i n) a b = one_set_word k l i n a b
-  one_word k l (Member i m) a b = one_set_word k l i (a.code / 64) a.word (subst (λ (c : ℕ). IsWordOf p w l i (c / 64)) (sym (one_tied_code p a.code b.code (At m) a.at b.at)) b.word)
+  one_word k l (Member i m) a b = one_set_word k l i (a.code / 64) a.word (subst (λ (c : ℕ). IsWordOf p w l i (c / 64)) (sym (one_code p w.made by a.code b.code (At m) a.at b.at)) b.word)
 
   module _ (k : ℕ) (asked : IsKeyOf p w (IsAsked p) k) (full : IsFull f w k) where
     -- what the key of a cell is of

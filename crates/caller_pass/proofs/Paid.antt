@@ -16,6 +16,7 @@ use Rattle.memo_cells.specs.declared.view.View.{View}
 use Rattle.memo_cells.specs.Naming.{IsCellOf}
 use Rattle.memo_cells.specs.Standing.{IsPassOf, Knows}
 use Rattle.memo_cells.specs.Views.{Has, IsAtLeast}
+use Rattle.memo_cells.proofs.Agreeing.{instance_known_later}
 use Rattle.memo_cells.proofs.Claiming.{chain_then}
 use Rattle.memo_cells.proofs.Naming.{cell_later}
 use Rattle.circular_eval.specs.declared.local.Local.{Local}
@@ -24,7 +25,7 @@ use Rattle.caller_pass.specs.Answering.{SameWay, WayChanges, is_known_at, unsett
 use Rattle.caller_pass.specs.Waiting.{AreWaiting, IsPlaced, IsStack, IsWayOf, LooksAgain, WaitsBy, WayStays, waits, way_of}
 use Rattle.caller_pass.proofs.Falling.{left}
 use Rattle.caller_pass.proofs.Frames.{waiting_front}
-use Rattle.caller_pass.proofs.Knowing.{known_cell, one_cell}
+use Rattle.caller_pass.proofs.Knowing.{known_cell, one_cell, open_in}
 use Rattle.memo_cells.proofs.Bits.{has_left}
 use Rattle.caller_pass.proofs.Lines.{has_last, has_snoc, start_chain, waiting_chain}
 use Rattle.caller_pass.proofs.Paying.{AreApart, IsFresh, IsStart, Pays, by_done, done, done_by, empty_of, falls_so, fresh_circular, fresh_frame, has_or_not, left_done, none_some, some_once, sorted, without}
@@ -185,7 +186,7 @@ module _ (p : Program) (names : Naming) (named : IsNamingOf p names) (f : Frame)
   -- the last one is settled: it was evaluated where it waits for no local set, or it was found so
   module _ (known : Knows p w (instance_by p names t)) (count : ℕ) (cheap : (count ≡ evals) ⊎ ((count ≡ evals + 1) × (way_of x ≡ None))) where
     its_cell : x.slot.0 ≡ known.slot
-    its_cell = one_cell p f w (instance_by p names t) x.slot.0 known.slot then pooled (cell_later v w kept p f (instance_by p names t) x.slot.0 stack.frame.placed.slot) (known_cell p f w (instance_by p names t) then known)
+    its_cell = one_cell p f w (instance_by p names t) x.slot.0 known.slot then pooled (open_in p f w same then) (cell_later v w kept p f (instance_by p names t) x.slot.0 stack.frame.placed.slot) (known_cell p f w (instance_by p names t) then known)
 
     -- no other one that waits is the same instance
     not_it : (d : CodedInstance × Waiter) → Has es d → instance_by p names d.0 ≢ instance_by p names t
@@ -242,14 +243,14 @@ module _ (p : Program) (names : Naming) (named : IsNamingOf p names) (f : Frame)
         each : (s : Instance) (k : Knows p w s) → Has (instance_by p names t ∷ ks) s → IsFresh p names f same v w own then kept (es ++ (t, x) ∷ []) after placed s k
         each s k h = ⊎_elim
             (λ is. fresh_frame p names f same v w own then kept (es ++ (t, x) ∷ []) after placed s k (t, x) (has_last es (t, x))
-            (one_cell p f w s x.slot.0 k.slot then pooled (subst (λ (j : Instance). IsCellOf p f w j x.slot.0) (sym is) (cell_later v w kept p f (instance_by p names t) x.slot.0 stack.frame.placed.slot)) (known_cell p f w s then k))
+            (one_cell p f w s x.slot.0 k.slot then pooled (open_in p f w same then) (subst (λ (j : Instance). IsCellOf p f w j x.slot.0) (sym is) (cell_later v w kept p f (instance_by p names t) x.slot.0 stack.frame.placed.slot)) (known_cell p f w s then k))
             (λ d there same_one. other d there (same_one ∙ is)))
             (λ later. fresh_circular p names f same v w own then kept (es ++ (t, x) ∷ []) after placed s k (pays.unknown s (knows s later).1) (pays.are_circular s (knows s later).1))
             h
 
     -- the one that waited for it is on top again
-    pub pays_back : (ds : List (CodedInstance × Waiter)) (last : CodedInstance × Waiter) → es ≡ ds ++ last ∷ [] → (y : Waiter) → LooksAgain p names w last.1 y → IsStack p names f w i ds (last.0, y) → Pays p names w f.cells hs ds (last.0, y) count budget
-    pays_back ds last is y looks next =
+    pub pays_back : (ds : List (CodedInstance × Waiter)) (last : CodedInstance × Waiter) → es ≡ ds ++ last ∷ [] → (y : Waiter) (u : View) → IsAtLeast v u → LooksAgain p names u w last.1 y → IsStack p names f w i ds (last.0, y) → Pays p names w f.cells hs ds (last.0, y) count budget
+    pays_back ds last is y u before looks next =
         let placed = on_stack p names f w i ds (last.0, y) next in
         let r = sorted p f w below.starts same then below.apart in
         let fewer = fewer_back (ds ++ (last.0, y) ∷ []) placed still_back others_back r.known (λ s h. ((r.knows s h).0, below.among s (r.knows s h).1)) r.known_apart in
@@ -279,13 +280,13 @@ module _ (p : Program) (names : Naming) (named : IsNamingOf p names) (f : Frame)
         others_back : (d : CodedInstance × Waiter) → Has (ds ++ (last.0, y) ∷ []) d → instance_by p names d.0 ≢ instance_by p names t
         others_back d h at = let b = was d h in not_it b.0 b.1 (ap (instance_by p names) b.3 ∙ at)
 
-        way_back : (s : Instance) (old new : Option Local) → way_of last.1 ≡ old → way_of y ≡ new → WayStays p names w old new → (l : Local) → old ≡ Some l → instance_by p names l.start ≡ s → ¬ Knows p w s → IsStart p names (ds ++ (last.0, y) ∷ []) s
+        way_back : (s : Instance) (old new : Option Local) → way_of last.1 ≡ old → way_of y ≡ new → WayStays p names u w old new → (l : Local) → old ≡ Some l → instance_by p names l.start ≡ s → ¬ Knows p w s → IsStart p names (ds ++ (last.0, y) ∷ []) s
         way_back s None new a b h l some at unknown = absurd (none_some refl some)
         way_back s (Some k) None a b h l some at unknown =
             let start : instance_by p names k.start ≡ s = ap (λ (o : Local). instance_by p names o.start) (some_once refl some) ∙ at in
             let front = waiting_front p names f v ds last (instance_by p names t) (subst (λ l. AreWaiting p names f v l (instance_by p names t)) is stack.waiting) in
             let waited = subst (λ (o : Option Local). WaitsBy p names f v (instance_by p names last.0) o (instance_by p names t)) a front.1 in
-            absurd (unknown (subst (λ (j : Instance). Knows p w j) start (h waited.1.coded)))
+            absurd (unknown (subst (λ (j : Instance). Knows p w j) start (h waited.1.coded (instance_known_later p before.made k.start waited.1.known))))
         way_back s (Some k) (Some m) a b h l some at unknown = record { entry = (last.0, y); there = has_last ds (last.0, y); local = m; way = b; is = ap (λ (o : Local). instance_by p names o.start) (h.0 ∙ some_once refl some) ∙ at }
 
         start_back : (s : Instance) → IsStart p names es s → ¬ Knows p w s → IsStart p names (ds ++ (last.0, y) ∷ []) s

@@ -18,13 +18,14 @@ use Rattle.memo_cells.specs.Standing.{IsPassOf, Knows}
 use Rattle.memo_cells.specs.Views.{Has, IsAtLeast}
 use Rattle.memo_cells.proofs.Counting.{any_has, has_any}
 use Rattle.memo_cells.proofs.Deciding.{knows_or_not}
+use Rattle.memo_cells.proofs.Agreeing.{IsOpen}
 use Rattle.memo_cells.proofs.Naming.{stands_once}
 use Rattle.circular_eval.specs.declared.local.Local.{Local}
 use Rattle.caller_pass.specs.declared.waiting.Waiter.{Waiter}
 use Rattle.caller_pass.specs.Answering.{is_known_at, unsettled}
 use Rattle.caller_pass.specs.Waiting.{IsPlaced, way_of}
 use Rattle.caller_pass.proofs.Falling.{left, left_falls, left_less}
-use Rattle.caller_pass.proofs.Knowing.{known_cell}
+use Rattle.caller_pass.proofs.Knowing.{known_cell, open_in}
 use Rattle.caller_pass.proofs.Places.{both_of, known_at, of_both, one_of, settled_known}
 
 -- the cell is seen settled, and no instance waits at it
@@ -155,13 +156,13 @@ unfolding with_one
 with_by f s q h = ⊎_elim inl (λ e. inr (eqb-true q s e)) (one_of (f q) (eqb q s) h)
 
 -- so many different instances came to be known, whose cells count as done then
-module _ (p : Program) (f : Frame) (w : View) (own : IsPassOf f w) (g : ℕ → Bool) where
+module _ (p : Program) (f : Frame) (w : View) (own : IsPassOf f w) (by : IsOpen p w.made) (g : ℕ → Bool) where
   same_slot : (i j : Instance) (a : Knows p w i) (b : Knows p w j) → a.slot ≡ b.slot → i ≡ j
   same_slot i j a b e =
       let first = own.valued a.slot a.key a.code a.settled in
       let second = own.valued b.slot b.key b.code b.settled in
       let key : a.key ≡ b.key = own.one_key b.slot a.key b.key (subst (λ (s : ℕ). Has w.keys (s, a.key)) e first) second in
-      stands_once w own.one_key p b.key i j (subst (λ (k : ℕ). StandsFor p w k i) key a.stands) b.stands
+      stands_once w own.one_key p by b.key i j (subst (λ (k : ℕ). StandsFor p w k i) key a.stands) b.stands
 
   pub so_many : (ks : List Instance) (knows : (s : Instance) → Has ks s → Knows p w s) → AreApart ks → (h : ℕ → Bool) → ((q : ℕ) → h q ≡ true → g q ≡ true) → ((s : Instance) (there : Has ks s) → (h (knows s there).slot ≡ true → ⊥) × (g (knows s there).slot ≡ true)) → left g f.cells + length ks ≤ left h f.cells
   so_many [] knows apart h more new = let less = left_less h g f.cells more in omega (arith, less)
@@ -209,7 +210,7 @@ module _ (p : Program) (names : Naming) (f : Frame) (same : p ≡ program_of f.s
   frame_apart e placed s k other is =
       let first = subst (λ (q : ℕ). Has w.keys (q, placed.slot.0)) is placed.slot.1.1 in
       let key : placed.slot.0 ≡ k.key = own_now.one_key k.slot placed.slot.0 k.key first (own_now.valued k.slot k.key k.code k.settled) in
-      other (stands_once w own_now.one_key p k.key (instance_by p names e.0) s (subst (λ (j : ℕ). StandsFor p w j (instance_by p names e.0)) key placed.slot.2) k.stands)
+      other (stands_once w own_now.one_key p (open_in p f w same own_now) k.key (instance_by p names e.0) s (subst (λ (j : ℕ). StandsFor p w j (instance_by p names e.0)) key placed.slot.2) k.stands)
 
   -- those that wait before and after, and what comes to be known
   module _ (before after : List (CodedInstance × Waiter)) (placed : (e : CodedInstance × Waiter) → Has after e → IsPlaced p names f w e) where
@@ -234,4 +235,4 @@ module _ (p : Program) (names : Naming) (f : Frame) (same : p ≡ program_of f.s
 
     pub falls_so : (ks : List Instance) (knows : (s : Instance) → Has ks s → Knows p w s) → AreApart ks → ((q : ℕ) → done v before q ≡ true → done w after q ≡ true) → ((s : Instance) (h : Has ks s) → IsFresh s (knows s h)) → left (done w after) f.cells + length ks ≤ left (done v before) f.cells
     unfolding IsFresh
-    falls_so ks knows apart more fresh = so_many p f w own_now (done w after) ks knows apart (done v before) more fresh
+    falls_so ks knows apart more fresh = so_many p f w own_now (open_in p f w same own_now) (done w after) ks knows apart (done v before) more fresh

@@ -13,6 +13,7 @@ use Rattle.memo_cells.specs.Standing.{IsPassOf, Knows}
 use Rattle.memo_cells.specs.Views.{Has, IsAtLeast}
 use Rattle.memo_cells.proofs.Counting.{any_has, has_any}
 use Rattle.memo_cells.proofs.Firsts.{behind_cell}
+use Rattle.memo_cells.proofs.Agreeing.{IsOpen, own_open}
 use Rattle.memo_cells.proofs.Naming.{stands_later, stands_once}
 use Rattle.caller_pass.specs.Answering.{is_known_at, is_way}
 
@@ -141,5 +142,6 @@ module _ (p : Program) (f : Frame) (v : View) (same : p ≡ program_of f.system.
       let there = own.valued slot x.key x.code x.settled in
       let of = key_stands slot x.key there x.is in
       let word : cell.0 ≡ x.key = own_then.one_key slot cell.0 x.key cell.1.1 (more.keys slot x.key there) in
-      let is : of.0 ≡ i = stands_once w own_then.one_key p x.key of.0 i (stands_later v w more p x.key of.0 of.1) (subst (λ (k : ℕ). StandsFor p w k i) word cell.2) in
+      let by : IsOpen p w.made = subst (λ (q : Program). IsOpen q w.made) (sym same) (own_open f w [] own_then) in
+      let is : of.0 ≡ i = stands_once w own_then.one_key p by x.key of.0 i (stands_later v w more p x.key of.0 of.1) (subst (λ (k : ℕ). StandsFor p w k i) word cell.2) in
       record { key = x.key; stands = subst (λ (j : Instance). StandsFor p v x.key j) is of.1; slot = slot; code = x.code; settled = x.settled }

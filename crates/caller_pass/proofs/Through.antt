@@ -1,28 +1,29 @@
 -- What a turn comes to, at each way out of it.
-use Rattle.std.proofs.Common.{◌≡◌, ℕ, ◌+◌, Bool, false, true, Option, Some, None, Result, Ok, Err, refl, sym, ap, subst}
+use Rattle.std.proofs.Common.{◌≡◌, ℕ, ◌+◌, [], Bool, false, true, Option, Some, None, Result, Ok, Err, refl, sym, ap, subst}
 use Rattle.std.specs.Global.{Box}
 use Rattle.std.specs.Result.{IsErr, IsErrAnd}
 use Rattle.solutions.specs.Leading.{more, none}
 use Rattle.equation_law.specs.declared.coding.Instance.{Instance as CodedInstance}
 use Rattle.equation_law.specs.declared.coding.TreeImage.{TreeImage}
 use Rattle.equation_law.specs.declared.coding.Value.{Value as CodedValue}
-use Rattle.equation_law.specs.Checked.{IsProgram}
-use Rattle.equation_law.specs.Codes.{ByEachNaming, ByEachOrder, IsCoded, Naming, instance_by, instance_of, source_names}
-use Rattle.equation_law.specs.Equations.{is_declared}
+use Rattle.equation_law.specs.Checked.{IsInstance, IsProgram}
+use Rattle.equation_law.specs.Codes.{IsCoded, Naming, instance_by, instance_of}
+use Rattle.equation_law.specs.Equations.{equations_of, is_declared}
 use Rattle.equation_law.specs.Loops.{Leads}
 use Rattle.equation_law.specs.Names.{Instance}
-use Rattle.equation_law.specs.Program.{Program, text_of}
+use Rattle.equation_law.specs.Program.{Program}
 use Rattle.equation_law.specs.Systems.{program_of}
-use Rattle.equation_law.proofs.Codes.{sources_named}
-use Rattle.equation_law.proofs.Sources.{source_naming}
 use Rattle.expr_eval.specs.declared.sites.Turn.TheVariants as turns
+use Rattle.memo_cells.specs.Agreeing.{Agrees, ByEachAgreeing, IsKnownInstance}
 use Rattle.memo_cells.specs.Causes.{WhyUnsettled}
+use Rattle.made_trees.specs.Made.{naming_by_makers}
 use Rattle.memo_cells.specs.declared.view.Frame.{Frame}
 use Rattle.memo_cells.specs.declared.view.View.{View}
 use Rattle.memo_cells.specs.Claiming.{ClaimsKeys}
 use Rattle.memo_cells.specs.Naming.{IsCellOf}
 use Rattle.memo_cells.specs.Standing.{Knows}
-use Rattle.memo_cells.specs.Working.{ClaimsKeysFor, GoesOn, Held, IsCellNow, IsInstanceAt, ReadsOn, program_at}
+use Rattle.memo_cells.specs.Working.{ClaimsKeysFor, GoesOn, Held, IsCellNow, IsInstanceAt, IsKnownAt, IsOwn, ReadsOn, program_at}
+use Rattle.memo_cells.proofs.Agreeing.{agrees_before, instance_known_later, own_open}
 use Rattle.memo_cells.proofs.Causes.{log_itself}
 use Rattle.memo_cells.proofs.Claiming.{claims_same, claims_then}
 use Rattle.memo_cells.proofs.More.{at_least_itself}
@@ -39,7 +40,7 @@ use Rattle.caller_pass.specs.declared.solving.Went.{Went}
 use Rattle.caller_pass.specs.declared.solving.Went.TheVariants.{Further, Need, Settled}
 use Rattle.caller_pass.specs.declared.waiting.Waiter.{Waiter}
 use Rattle.caller_pass.specs.Answering.{AnswersFinish, AnswersStep, Evaluates, FindsSettled, GoesThrough, IsNext, IsSameFault, SameWay, WayChanges}
-use Rattle.caller_pass.specs.Holding.{AnswersFinishAt, HasEndedAt, HasTurnAt, IsFrameAt, IsUnknownAt, TurnsToAt}
+use Rattle.caller_pass.specs.Holding.{AnswersFinishAt, HasEndedAt, HasTurnAt, IsFrameAt, IsInstanceByEach, IsUndeclaredAt, IsUnknownAt, TurnsToAt}
 use Rattle.caller_pass.specs.Knowing.{HasEnded, TellsSettled}
 use Rattle.caller_pass.specs.Leaving.{IsLeft, reads_known}
 use Rattle.caller_pass.specs.Waiting.{HasTurn, HasWay, IsLocalFrom, IsWayOf, way_of}
@@ -50,23 +51,23 @@ use Rattle.memo_cells.proofs.Holding.{goes_then, own_then}
 use Rattle.caller_pass.proofs.Stepping.{err_is, finish_step, local_fault, memory_step, next_local, next_need, way_need}
 
 -- no equation comes to a tree that is made
-pub no_image : (d e : Held) (i : CodedInstance) (t : TreeImage) → TurnsToAt d e i (Ok (turns.Image t)) → ⊥
-no_image d e i t came =
-    let p = program_at d in
-    let plain = source_naming p in
-    came (source_names (text_of p)) plain.0 plain.1
+pub no_image : (d e : Held) (i : CodedInstance) (t : TreeImage) → GoesOn d e → TurnsToAt d e i (Ok (turns.Image t)) → ⊥
+no_image d e i t on came = came _ (own_open d.frame e.view [] (own_then d e on))
 
 -- the local set through which an instance waits
 pub turn_way : (p : Program) (names : Naming) (f : Frame) (v : View) (i : CodedInstance) (x : Waiter) (l : Local) → HasTurn p names f v (i, x) → way_of x ≡ Some l → HasWay p names f v (instance_by p names i) (Some l)
 turn_way p names f v i x l turn way = subst (λ (o : Option Local). HasWay p names f v (instance_by p names i) o) way turn.way
 
--- it is well coded, and what its evaluation left behind is so, whatever codes stand for
-module _ (d : Held) (i : CodedInstance) (x : Waiter) (turn : HasTurnAt d (i, x)) where
-  plainly : HasTurn (program_at d) (source_names (text_of (program_at d))) d.frame d.view (i, x)
-  plainly = turn (source_names (text_of (program_at d))) (sources_named (program_at d))
+-- it is well coded, its nodes are known, and what its evaluation left behind is so
+module _ (d : Held) (i : CodedInstance) (x : Waiter) (own : IsOwn d) (turn : HasTurnAt d (i, x)) where
+  plainly : HasTurn (program_at d) (naming_by_makers (program_at d) d.view.made) d.frame d.view (i, x)
+  plainly = turn _ (own_open d.frame d.view [] own)
 
   pub turn_coded : IsCoded (program_at d) i
   turn_coded = plainly.placed.coded
+
+  pub turn_known : IsKnownAt d i
+  turn_known = plainly.placed.known
 
   pub turn_left : IsLeft d.frame.system.value (reads_known (program_at d) d.view) i x.left
   turn_left = plainly.placed.left
@@ -75,9 +76,12 @@ module _ (d : Held) (i : CodedInstance) (x : Waiter) (turn : HasTurnAt d (i, x))
   turn_local l way names named = (turn_way (program_at d) names d.frame d.view i x l (turn names named) way).0
 
 -- the instance waits for a local set, which went on
-module _ (d e : Held) (i : CodedInstance) (x : Waiter) (l : Local) (b : Box Local) (way : way_of x ≡ Some l) (turn : HasTurnAt d (i, x)) (on : GoesOn d e) (local : IsStillLocal d e b.value × (b.value.start ≡ l.start)) (claims : ClaimsKeysFor d e l.start) (before after : ℕ) (evals : after ≡ before + 1) where
-  its : ByEachNaming (program_at d) (λ names. HasWay (program_at d) names d.frame d.view (instance_by (program_at d) names i) (Some l))
-  its names named = turn_way (program_at d) names d.frame d.view i x l (turn names named) way
+module _ (d e : Held) (i : CodedInstance) (x : Waiter) (l : Local) (b : Box Local) (way : way_of x ≡ Some l) (own : IsOwn d) (turn : HasTurnAt d (i, x)) (on : GoesOn d e) (local : IsStillLocal d e b.value × (b.value.start ≡ l.start)) (claims : ClaimsKeysFor d e l.start) (before after : ℕ) (evals : after ≡ before + 1) where
+  before_on : {names : Naming} → Agrees (program_at d) e.view.made names → Agrees (program_at d) d.view.made names
+  before_on = agrees_before (program_at d) on.kept.made
+
+  its : ByEachAgreeing (program_at d) e.view.made (λ names. HasWay (program_at d) names d.frame d.view (instance_by (program_at d) names i) (Some l))
+  its names named = turn_way (program_at d) names d.frame d.view i x l (turn names (before_on named)) way
 
   start_is : (names : Naming) → instance_by (program_at d) names b.value.start ≡ instance_by (program_at d) names l.start
   start_is names = ap (instance_by (program_at d) names) local.1
@@ -88,7 +92,7 @@ module _ (d e : Held) (i : CodedInstance) (x : Waiter) (l : Local) (b : Box Loca
       claims_then p (instance_by p names i) (instance_by p names l.start) d.view d.view e.view (more (its names named).1 none) (claims_same p (instance_by p names i) d.view d.view refl) on.kept (claims names named)
 
   still_left : IsLeft d.frame.system.value (reads_known (program_at d) e.view) i x.left
-  still_left = left_known (program_at d) d.view e.view on.kept d.frame.system.value i x.left (turn_left d i x turn)
+  still_left = left_known (program_at d) d.view e.view on.kept d.frame.system.value i x.left (turn_left d i x own turn)
 
   pub local_err : (from : CircFault) (r : Result Went AskFault) → IsErr r × IsErrAnd r (λ e. IsSameFault from e) → AnswersCircular (program_at d) b.value.start d.frame e.view from → GoesThrough (program_at d) d e i x (record { slot = x.slot; way = Some b; left = x.left }) before after r
   local_err from r h a = record {
@@ -99,7 +103,7 @@ module _ (d e : Held) (i : CodedInstance) (x : Waiter) (l : Local) (b : Box Loca
     answer = λ names named.
         let p = program_at d in
         err_is (AnswersStep p names d.frame e.view (instance_by p names i) (way_of x) (Some b.value)) (λ (y : AskFault). IsSameFault from y) r h
-        (λ y is. local_fault p names named d.frame e.view (instance_by p names i) l.start (way_of x) (Some b.value) from y (its names named).1 (subst (λ (j : CodedInstance). AnswersCircular p j d.frame e.view from) local.1 a) is);
+        (λ y is. local_fault p names d.frame e.view named (instance_by p names i) l.start (way_of x) (Some b.value) from y (its names named).1 (subst (λ (j : CodedInstance). AnswersCircular p j d.frame e.view from) local.1 a) is);
     evals = evals;
   }
 
@@ -117,7 +121,7 @@ module _ (d e : Held) (i : CodedInstance) (x : Waiter) (l : Local) (b : Box Loca
     evals = evals;
   }
 
-  pub local_closed : ByEachNaming (program_at d) (λ names. Knows (program_at d) e.view (instance_by (program_at d) names b.value.start)) → GoesThrough (program_at d) d e i x (record { slot = x.slot; way = None; left = x.left }) before after (Ok Further)
+  pub local_closed : ByEachAgreeing (program_at d) e.view.made (λ names. Knows (program_at d) e.view (instance_by (program_at d) names b.value.start)) → GoesThrough (program_at d) d e i x (record { slot = x.slot; way = None; left = x.left }) before after (Ok Further)
   local_closed known = record {
     on = on;
     claims = all_claims;
@@ -148,8 +152,8 @@ module _ (d e : Held) (i : CodedInstance) (x : Waiter) (way : way_of x ≡ None)
 
   -- it demands another one
   module _ (n : CodedInstance) (need : TurnsToAt d e i (Ok (turns.Need n))) where
-    is_placed : IsInstanceAt d i
-    is_placed names named = (turn names named).placed.instance
+    is_placed : IsInstanceByEach (program_at d) e.view i
+    is_placed names named = (turn names (agrees_before (program_at d) on.on.kept.made named)).placed.instance
 
     pub turn_need : is_declared (program_at d) (instance_of (program_at d) n) ≡ false → GoesThrough (program_at d) d e i x (record { slot = x.slot; way = x.way; left = m }) before after (Ok (Need n))
     turn_need plain = record {
@@ -179,13 +183,13 @@ module _ (d e : Held) (i : CodedInstance) (x : Waiter) (way : way_of x ≡ None)
 
   -- it ended, and was settled
   module _ (g : Held) (then_on : GoesOn e g) (more : ClaimsKeysFor e g i) where
-    then_claims : ByEachNaming (program_at d) (λ names. ClaimsKeys (program_at d) (instance_by (program_at d) names i) e.view g.view)
-    then_claims = subst (λ (f : Frame). ByEachNaming (program_of f.system.value) (λ names. ClaimsKeys (program_of f.system.value) (instance_by (program_of f.system.value) names i) e.view g.view)) on.on.cells more
+    then_claims : ByEachAgreeing (program_at d) g.view.made (λ names. ClaimsKeys (program_at d) (instance_by (program_at d) names i) e.view g.view)
+    then_claims = subst (λ (f : Frame). ByEachAgreeing (program_of f.system.value) g.view.made (λ names. ClaimsKeys (program_of f.system.value) (instance_by (program_of f.system.value) names i) e.view g.view)) on.on.cells more
 
     ended_claims : ClaimsKeysFor d g i
     ended_claims names named =
         let p = program_at d in
-        claims_then p (instance_by p names i) (instance_by p names i) d.view e.view g.view none (turn_claims names named) then_on.kept (then_claims names named)
+        claims_then p (instance_by p names i) (instance_by p names i) d.view e.view g.view none (turn_claims names (agrees_before p then_on.kept.made named)) then_on.kept (then_claims names named)
 
     pub ended_err : (f : AskFault) (r : Result Went AskFault) → IsErr r × IsErrAnd r (λ y. y ≡ f) → AnswersFinishAt e g i (Err f) → GoesThrough (program_at d) d g i x (record { slot = x.slot; way = x.way; left = m }) before after r
     ended_err f r h a = record {
@@ -195,20 +199,20 @@ module _ (d e : Held) (i : CodedInstance) (x : Waiter) (way : way_of x ≡ None)
       left = left_known (program_at d) e.view g.view then_on.kept d.frame.system.value i m told;
       answer = λ names named.
           let p = program_at d in
-          let here = subst (λ (k : Frame). ByEachNaming (program_of k.system.value) (λ names. AnswersFinish (program_of k.system.value) k g.view (instance_by (program_of k.system.value) names i) (Err f))) on.on.cells a in
+          let here = subst (λ (k : Frame). ByEachAgreeing (program_of k.system.value) g.view.made (λ names. AnswersFinish (program_of k.system.value) k g.view (instance_by (program_of k.system.value) names i) (Err f))) on.on.cells a in
           err_is (AnswersStep p names d.frame g.view (instance_by p names i) (way_of x) (way_of x)) (λ (y : AskFault). y ≡ f) r h
           (λ y is. subst (λ (z : AskFault). AnswersStep p names d.frame g.view (instance_by p names i) (way_of x) (way_of x) (Err z)) (sym is)
           (finish_step p names d.frame g.view (instance_by p names i) (way_of x) (way_of x) f (here names named)));
       evals = evals;
     }
 
-    pub ended_ok : ByEachNaming (program_at e) (λ names. Knows (program_at e) g.view (instance_by (program_at e) names i)) → GoesThrough (program_at d) d g i x (record { slot = x.slot; way = x.way; left = m }) before after (Ok Settled)
+    pub ended_ok : ByEachAgreeing (program_at e) g.view.made (λ names. Knows (program_at e) g.view (instance_by (program_at e) names i)) → GoesThrough (program_at d) d g i x (record { slot = x.slot; way = x.way; left = m }) before after (Ok Settled)
     ended_ok known = record {
       on = goes_then d e g on.on then_on;
       claims = ended_claims;
       slot = refl;
       left = left_known (program_at d) e.view g.view then_on.kept d.frame.system.value i m told;
-      answer = λ names named. (subst (λ (k : Frame). ByEachNaming (program_of k.system.value) (λ names. Knows (program_of k.system.value) g.view (instance_by (program_of k.system.value) names i))) on.on.cells known names named, way);
+      answer = λ names named. (subst (λ (k : Frame). ByEachAgreeing (program_of k.system.value) g.view.made (λ names. Knows (program_of k.system.value) g.view (instance_by (program_of k.system.value) names i))) on.on.cells known names named, way);
       evals = evals;
     }
 
@@ -216,12 +220,24 @@ module _ (d e : Held) (i : CodedInstance) (x : Waiter) (way : way_of x ≡ None)
   pub at_turn : (P : Frame → Type 0) → P d.frame → P e.frame
   at_turn P h = subst P (sym on.on.cells) h
 
+  module _ (own : IsOwn d) where
+    pub known_turn : IsKnownAt e i
+    known_turn = at_turn (λ f. IsKnownInstance (program_of f.system.value) e.view.made i) (instance_known_later (program_at d) on.on.kept.made i (turn_known d i x own turn))
+
+  pub instance_turn : IsInstanceAt e i
+  instance_turn = at_turn (λ f. ByEachAgreeing (program_of f.system.value) e.view.made (λ names. IsInstance (program_of f.system.value) (instance_by (program_of f.system.value) names i)))
+      (λ names named. (turn names (agrees_before (program_at d) on.on.kept.made named)).placed.instance)
+
+  pub undeclared_turn : IsUndeclaredAt e i
+  undeclared_turn = at_turn (λ f. ByEachAgreeing (program_of f.system.value) e.view.made (λ names. (equations_of (program_of f.system.value)).circular (instance_by (program_of f.system.value) names i) ≡ false))
+      (λ names named. (turn names (agrees_before (program_at d) on.on.kept.made named)).placed.undeclared)
+
   pub cell_turn : IsCellNow e i x.slot.0
-  cell_turn = at_turn (λ f. ByEachNaming (program_of f.system.value) (λ names. IsCellOf (program_of f.system.value) f e.view (instance_by (program_of f.system.value) names i) x.slot.0))
-      (λ names named. cell_later d.view e.view on.on.kept (program_at d) d.frame (instance_by (program_at d) names i) x.slot.0 (turn names named).placed.slot)
+  cell_turn = at_turn (λ f. ByEachAgreeing (program_of f.system.value) e.view.made (λ names. IsCellOf (program_of f.system.value) f e.view (instance_by (program_of f.system.value) names i) x.slot.0))
+      (λ names named. cell_later d.view e.view on.on.kept (program_at d) d.frame (instance_by (program_at d) names i) x.slot.0 (turn names (agrees_before (program_at d) on.on.kept.made named)).placed.slot)
 
   pub ended_turn : (value : CodedValue) → TurnsToAt d e i (Ok (turns.Done value)) → HasEndedAt e i value
-  ended_turn value h = at_turn (λ f. ByEachOrder (program_of f.system.value) (λ names. HasEnded (program_of f.system.value) names e.view (instance_by (program_of f.system.value) names i) value)) h
+  ended_turn value h = at_turn (λ f. ByEachAgreeing (program_of f.system.value) e.view.made (λ names. HasEnded (program_of f.system.value) names e.view (instance_by (program_of f.system.value) names i) value)) h
 
 -- its value word was loaded as the turn began
 module _ {d e : Held} {i : CodedInstance} {x : Waiter} (frame : IsFrameAt d (i, x)) (read : ReadsOn d e) (b : Bool) (told : TellsSettled (program_at d) d.frame d.view e.view x.slot.0 b) where
@@ -231,47 +247,52 @@ module _ {d e : Held} {i : CodedInstance} {x : Waiter} (frame : IsFrameAt d (i, 
   at_load : (P : Frame → Type 0) → P d.frame → P e.frame
   at_load P h = subst P (sym read.on.cells) h
 
+  before_load : {names : Naming} → Agrees (program_at d) e.view.made names → Agrees (program_at d) d.view.made names
+  before_load = agrees_before (program_at d) read.on.kept.made
+
   -- it was settled
   pub found_settled : b ≡ true → (n : ℕ) → FindsSettled d e i n n (Ok Settled)
   found_settled settled n = record {
     read = read;
-    known = at_load (λ f. ByEachNaming (program_of f.system.value) (λ names. Knows (program_of f.system.value) e.view (instance_by (program_of f.system.value) names i)))
-        (λ names named. told_at true settled (instance_by (program_at d) names i) (frame names named).placed.slot);
+    known = at_load (λ f. ByEachAgreeing (program_of f.system.value) e.view.made (λ names. Knows (program_of f.system.value) e.view (instance_by (program_of f.system.value) names i)))
+        (λ names named. told_at true settled (instance_by (program_at d) names i) (frame names (before_load named)).placed.slot);
     went = refl;
     evals = refl;
   }
 
   -- it wasn't
   module _ (missing : b ≡ false) (cause : b ≡ false → WhyUnsettled d.frame d.view e.view x.slot.0) where
-    unsettled : ByEachNaming (program_at d) (λ names. ¬ Knows (program_at d) e.view (instance_by (program_at d) names i))
-    unsettled names named = told_at false missing (instance_by (program_at d) names i) (frame names named).placed.slot
+    unsettled : ByEachAgreeing (program_at d) e.view.made (λ names. ¬ Knows (program_at d) e.view (instance_by (program_at d) names i))
+    unsettled names named = told_at false missing (instance_by (program_at d) names i) (frame names (before_load named)).placed.slot
 
     pub program_loaded : IsProgram (program_at d) → IsProgram (program_at e)
     program_loaded good = at_load (λ f. IsProgram (program_of f.system.value)) good
 
     pub unsettled_loaded : IsUnknownAt e i
-    unsettled_loaded = at_load (λ f. ByEachNaming (program_of f.system.value) (λ names. ¬ Knows (program_of f.system.value) e.view (instance_by (program_of f.system.value) names i))) unsettled
+    unsettled_loaded = at_load (λ f. ByEachAgreeing (program_of f.system.value) e.view.made (λ names. ¬ Knows (program_of f.system.value) e.view (instance_by (program_of f.system.value) names i))) unsettled
 
     pub turn_loaded : HasTurnAt e (i, x)
-    turn_loaded = at_load (λ f. ByEachNaming (program_of f.system.value) (λ names. HasTurn (program_of f.system.value) names f e.view (i, x))) turn_here
+    turn_loaded = at_load (λ f. ByEachAgreeing (program_of f.system.value) e.view.made (λ names. HasTurn (program_of f.system.value) names f e.view (i, x))) turn_here
       where
         way_loaded : (names : Naming) (o : Option Local) → IsWayOf (program_at d) names d.frame d.view (instance_by (program_at d) names i) o → HasWay (program_at d) names d.frame e.view (instance_by (program_at d) names i) o
         way_loaded names None h = tt
         way_loaded names (Some l) h = (local_later (program_at d) names d.view e.view read.on.kept d.frame l h.local, h.led)
 
-        turn_here : ByEachNaming (program_at d) (λ names. HasTurn (program_at d) names d.frame e.view (i, x))
-        turn_here names named = record { placed = placed_later (program_at d) names d.frame d.view e.view read.on.kept (i, x) (frame names named).placed; way = way_loaded names (way_of x) (frame names named).way }
+        turn_here : ByEachAgreeing (program_at d) e.view.made (λ names. HasTurn (program_at d) names d.frame e.view (i, x))
+        turn_here names named = record { placed = placed_later (program_at d) names d.frame d.view e.view read.on.kept (i, x) (frame names (before_load named)).placed; way = way_loaded names (way_of x) (frame names (before_load named)).way }
 
     pub evaluated : {g : Held} {y : Waiter} {before after : ℕ} {r : Result Went AskFault} → GoesThrough (program_at e) e g i x y before after r → Evaluates (program_at d) d g i x y before after r
     evaluated {g} {y} {before} {after} {r} h =
         let p = program_at d in
         let k = subst (λ (f : Frame). GoesThrough (program_of f.system.value) (record { frame = f; view = e.view; lender = e.lender }) g i x y before after r) read.on.cells h in
         record {
-          was = λ names named. was_within p d.frame d.view d.view e.view g.view (instance_by p names i) (at_least_itself d.view) (log_itself d.view) h.on.kept h.on.log
+          was = λ names then.
+              let named = agrees_before p h.on.kept.made then in
+              was_within p d.frame d.view d.view e.view g.view (instance_by p names i) (at_least_itself d.view) (log_itself d.view) h.on.kept h.on.log
               (record {
                 unknown = λ known. unsettled names named (knows_later d.view e.view read.on.kept p (instance_by p names i) known);
                 slot = x.slot.0;
-                cell = cell_later d.view e.view read.on.kept p d.frame (instance_by p names i) x.slot.0 (frame names named).placed.slot;
+                cell = cell_later d.view e.view read.on.kept p d.frame (instance_by p names i) x.slot.0 (frame names (before_load named)).placed.slot;
                 why = cause missing;
               });
           through = record {

@@ -23,7 +23,7 @@ use Rattle.caller_pass.specs.declared.waiting.Waiter.{Waiter}
 use Rattle.caller_pass.specs.Answering.{WayChanges, is_known_at}
 use Rattle.caller_pass.specs.Waiting.{IsPlaced, IsStack, IsWayOf, waits, way_of}
 use Rattle.caller_pass.proofs.Falling.{by_one, by_value, left, left_falls, left_less, measure, not_taken, pop_keeps, taken, taken_by, turns_of}
-use Rattle.caller_pass.proofs.Knowing.{known_cell, one_cell}
+use Rattle.caller_pass.proofs.Knowing.{known_cell, one_cell, open_in}
 use Rattle.memo_cells.proofs.Bits.{has_left}
 use Rattle.caller_pass.proofs.Lines.{has_last, has_snoc}
 use Rattle.caller_pass.proofs.Places.{known_at, known_at_later, settled_known}
@@ -63,7 +63,7 @@ module _ (p : Program) (names : Naming) (named : IsNamingOf p names) (f : Frame)
       let its = cell_later v w kept p f (instance_by p names e.0) e.1.slot.0 ((on_stack p names f v i es (t, x) stack e h).slot) in
       let word : its.0 ≡ cell.0 = then.one_key s its.0 cell.0 (subst (λ (q : ℕ). Has w.keys (q, its.0)) place its.1.1) cell.1.1 in
       let stands = subst (λ (k : ℕ). StandsFor p w k (instance_by p names e.0)) word its.2 in
-      other e h (stands_once w then.one_key p cell.0 (instance_by p names e.0) n stands cell.2)
+      other e h (stands_once w then.one_key p (open_in p f w same then) cell.0 (instance_by p names e.0) n stands cell.2)
 
   -- a cell that comes to be seen settled, of an instance that isn't on the stack
   pub falls_by : (n : Instance) → ¬ Knows p v n → ((e : CodedInstance × Waiter) → Has (es ++ (t, x) ∷ []) e → instance_by p names e.0 ≢ n) → (s : ℕ) → IsCellOf p f w n s → (g : ℕ → Bool) → ((q : ℕ) → taken v (es ++ (t, x) ∷ []) q ≡ true → g q ≡ true) → g s ≡ true → left g f.cells < left (taken v (es ++ (t, x) ∷ [])) f.cells
@@ -123,7 +123,7 @@ module _ (p : Program) (names : Naming) (named : IsNamingOf p names) (f : Frame)
     settled_there =
         let cell = known_cell p f w (instance_by p names t) then known in
         let its = cell_later v w kept p f (instance_by p names t) x.slot.0 stack.frame.placed.slot in
-        subst (λ (q : ℕ). is_known_at w q ≡ true) (one_cell p f w (instance_by p names t) known.slot x.slot.0 then pooled cell its) (known_at p w (instance_by p names t) known)
+        subst (λ (q : ℕ). is_known_at w q ≡ true) (one_cell p f w (instance_by p names t) known.slot x.slot.0 then pooled (open_in p f w same then) cell its) (known_at p w (instance_by p names t) known)
 
     pub less_back : left (taken w es) f.cells ≤ left (taken v (es ++ (t, x) ∷ [])) f.cells
     less_back = left_less (taken v (es ++ (t, x) ∷ [])) (taken w es) f.cells (pop_keeps v w es (t, x) kept settled_there)

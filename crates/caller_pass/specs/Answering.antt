@@ -5,13 +5,14 @@ use Rattle.attr_rules.specs.Rules.{is_single}
 use Rattle.equation_law.specs.declared.coding.Instance.{Instance as CodedInstance}
 use Rattle.equation_law.specs.declared.coding.Value.{Value as CodedValue}
 use Rattle.equation_law.specs.Checked.{IsInstance}
-use Rattle.equation_law.specs.Codes.{AreElements, ByEachNaming, IsCoded, Naming, instance_by, value_by}
+use Rattle.equation_law.specs.Codes.{AreElements, IsCoded, Naming, instance_by, value_by}
 use Rattle.equation_law.specs.Equations.{HasValue, equations_of, kind_in}
 use Rattle.equation_law.specs.Loops.{Chain, HasLoop}
 use Rattle.equation_law.specs.Names.{Instance}
 use Rattle.equation_law.specs.Program.{Program}
 use Rattle.memo_cells.specs.declared.view.Frame.{Frame}
 use Rattle.memo_cells.specs.declared.view.View.{View}
+use Rattle.memo_cells.specs.Agreeing.{ByEachAgreeing, IsKnownInstance, IsKnownValue}
 use Rattle.memo_cells.specs.Causes.{WhyUnsettled}
 use Rattle.memo_cells.specs.Claiming.{ClaimsKeys, FillsCells}
 use Rattle.memo_cells.specs.Naming.{IsCellOf}
@@ -66,14 +67,14 @@ StopsAt p names f v i (Circular on chain) = EndsAtLoop p i (instance_by p names 
 StopsAt p names f v i CellsFull = FillsCells p i f v
 StopsAt p names f v i Memory = Unit {0}
 
--- Ok is the value in the solution, whose elements are coded well if it is a set, and the cell is then seen settled
+-- Ok is the value in the solution, whose elements are coded well if it is a set, and the cell is then seen settled; the pass knows the nodes in the value
 abbrev pub AnswersAsk : Program → Naming → Frame → View → Instance → Result CodedValue AskFault → Type 0
-AnswersAsk p names f v i (Ok x) = HasValue p i (value_by names x) × Knows p v i × AreElements p x
+AnswersAsk p names f v i (Ok x) = HasValue p i (value_by names x) × Knows p v i × AreElements p x × IsKnownValue v.made x
 AnswersAsk p names f v i (Err fault) = AnswersFault p names f v i fault
 
 -- the same with such a fault
 abbrev pub AnswersNoted : Program → Naming → Frame → View → Instance → Result CodedValue AskFault → Type 0
-AnswersNoted p names f v i (Ok x) = HasValue p i (value_by names x) × Knows p v i × AreElements p x
+AnswersNoted p names f v i (Ok x) = HasValue p i (value_by names x) × Knows p v i × AreElements p x × IsKnownValue v.made x
 AnswersNoted p names f v i (Err fault) = StopsAt p names f v i fault
 
 -- the cell is then seen settled
@@ -107,10 +108,11 @@ SameWay None (Some m) = ⊥
 SameWay (Some l) None = ⊥
 SameWay (Some l) (Some m) = m.start ≡ l.start
 
--- the instance for which i waits: one that isn't circular, and isn't seen settled
+-- the instance for which i waits: one that isn't circular, and isn't seen settled; the pass knows its nodes
 pub record IsNext (p : Program) (names : Naming) (f : Frame) (v : View) (i : Instance) (way : Option Local) (n : CodedInstance) : Type 0 where
   pub instance : IsInstance p (instance_by p names n)
   pub coded : IsCoded p n
+  pub known : IsKnownInstance p v.made n
   pub undeclared : (equations_of p).circular (instance_by p names n) ≡ false
   pub unknown : ¬ Knows p v (instance_by p names n)
   pub waits : WaitsBy p names f v i way (instance_by p names n)
@@ -123,13 +125,13 @@ AnswersStep p names f v i old new (Err (Circular on chain)) = ⊥
 AnswersStep p names f v i old new (Err CellsFull) = FillsCells p i f v
 AnswersStep p names f v i old new (Err Memory) = Unit {0}
 
--- an evaluation in a turn of i, with what was known and is known, by each naming, and the counts of evaluations before and after
+-- an evaluation in a turn of i, with what was known and is known, by each naming that agrees with that, and the counts of evaluations before and after
 pub record GoesThrough (p : Program) (d e : Held) (i : CodedInstance) (old new : Waiter) (before after : ℕ) (result : Result Went AskFault) : Type 0 where
   pub on : GoesOn d e
   pub claims : ClaimsKeysFor d e i
   pub slot : new.slot ≡ old.slot
   pub left : IsLeft d.frame.system.value (reads_known p e.view) i new.left
-  pub answer : ByEachNaming p (λ names. AnswersStep p names d.frame e.view (instance_by p names i) (way_of old) (way_of new) result)
+  pub answer : ByEachAgreeing p e.view.made (λ names. AnswersStep p names d.frame e.view (instance_by p names i) (way_of old) (way_of new) result)
   pub evals : after ≡ before + 1
 
 -- i wasn't known, and the value word of its cell, as loaded in this call, wasn't settled: `v` is what was known before, and `w` what is known
@@ -148,7 +150,7 @@ pub record FindsSettled (d e : Held) (i : CodedInstance) (before after : ℕ) (r
 
 -- it wasn't, as its turn loaded it, and there is one evaluation more
 pub record Evaluates (p : Program) (d e : Held) (i : CodedInstance) (old new : Waiter) (before after : ℕ) (result : Result Went AskFault) : Type 0 where
-  pub was : ByEachNaming p (λ names. WasUnsettled p d.frame d.view e.view (instance_by p names i))
+  pub was : ByEachAgreeing p e.view.made (λ names. WasUnsettled p d.frame d.view e.view (instance_by p names i))
   pub through : GoesThrough p d e i old new before after result
 
 -- A turn of i, which begins with a load of its value word. The count of evaluations rises only where that wasn't settled.
@@ -198,9 +200,9 @@ pub record SolvesFor (p : Program) (names : Naming) (f : Frame) (v w : View) (l 
   pub cost : IsOk result → after + 2 * unsettled w f.cells < before + 2 * unsettled v f.cells
   pub start : IsOk result → ¬ Knows p v (instance_by p names l.start) → Knows p w (instance_by p names l.start) → after + 1 + 2 * unsettled w f.cells < before + 2 * unsettled v f.cells
 
--- the same of a pass at its cells by each naming, with what it knew and knows
+-- the same of a pass at its cells by each naming that agrees with it, with what it knew and knows
 abbrev pub SolvesNeed : Held → Held → Local → CodedInstance → ℕ → ℕ → Result Unit AskFault → Type 0
-SolvesNeed d e l n before after result = ByEachNaming (program_at d) (λ names. SolvesFor (program_at d) names d.frame d.view e.view l (instance_by (program_at d) names n) before after result)
+SolvesNeed d e l n before after result = ByEachAgreeing (program_at d) e.view.made (λ names. SolvesFor (program_at d) names d.frame d.view e.view l (instance_by (program_at d) names n) before after result)
 
 -- What going on with the local set of i says, with the counts of evaluations before and after: more cells are seen settled then, and where the
 -- cell of i is one of them, it is left to pay.
@@ -211,9 +213,9 @@ pub record ClosesMore (p : Program) (names : Naming) (f : Frame) (v w : View) (i
   pub known : IsOk result → Knows p w i → after + 2 * unsettled w f.cells < before + 2 * unsettled v f.cells
   pub falls : IsOk result → unsettled w f.cells < unsettled v f.cells
 
--- the same of a pass at its cells and a local set by each naming, with what it knew and knows
+-- the same of a pass at its cells and a local set by each naming that agrees with the pass, with what it knew and knows
 abbrev pub ClosesLocal : Held → Held → Local → ℕ → ℕ → Result Unit AskFault → Type 0
-ClosesLocal d e l before after result = ByEachNaming (program_at d) (λ names. ClosesMore (program_at d) names d.frame d.view e.view (instance_by (program_at d) names l.start) before after result)
+ClosesLocal d e l before after result = ByEachAgreeing (program_at d) e.view.made (λ names. ClosesMore (program_at d) names d.frame d.view e.view (instance_by (program_at d) names l.start) before after result)
 
 -- where the cell was seen settled, it takes no evaluation, and only the value of a set takes memory
 abbrev pub AnswersKnown : Program → Instance → Result CodedValue AskFault → Type 0
@@ -241,10 +243,10 @@ pub record AsksNoted (p : Program) (names : Naming) (f : Frame) (v w : View) (i 
   pub loads : (after ≡ before) ⊎ WasUnsettled p f v w i
   pub cost : IsOk result → (after ≡ before) ⊎ (after + 2 * unsettled w f.cells < before + 2 * unsettled v f.cells)
 
--- what asking for a coded instance says, by each naming
+-- what asking for a coded instance says, by each naming that agrees with what is known then
 abbrev pub AsksByEach : Program → Frame → View → View → CodedInstance → ℕ → ℕ → Result CodedValue AskFault → Type 0
-AsksByEach p f v w i before after result = ByEachNaming p (λ names. Asks p names f v w (instance_by p names i) before after result)
+AsksByEach p f v w i before after result = ByEachAgreeing p w.made (λ names. Asks p names f v w (instance_by p names i) before after result)
 
 -- the same where the caller may have noted loops
 abbrev pub AsksNotedByEach : Program → Frame → View → View → CodedInstance → ℕ → ℕ → Result CodedValue AskFault → Type 0
-AsksNotedByEach p f v w i before after result = ByEachNaming p (λ names. AsksNoted p names f v w (instance_by p names i) before after result)
+AsksNotedByEach p f v w i before after result = ByEachAgreeing p w.made (λ names. AsksNoted p names f v w (instance_by p names i) before after result)

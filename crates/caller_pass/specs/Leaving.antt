@@ -2,13 +2,13 @@
 use Rattle.std.specs.Prelude.{◌≡◌, Option, Some, None}
 use Rattle.equation_law.specs.declared.coding.Instance.{Instance as CodedInstance}
 use Rattle.equation_law.specs.declared.system.System.{System}
-use Rattle.equation_law.specs.Codes.{NamesInOrder}
 use Rattle.equation_law.specs.Equations.{HasValue}
 use Rattle.equation_law.specs.Program.{Program}
 use Rattle.equation_law.specs.Reading.{Told}
 use Rattle.equation_law.specs.Systems.{program_of}
 use Rattle.expr_eval.specs.Saved.{AreSaved, SavesNothing}
 use Rattle.memo_cells.specs.declared.view.View.{View}
+use Rattle.memo_cells.specs.Agreeing.{Agrees, IsKnownNode}
 use Rattle.memo_cells.specs.Working.{IsKnown}
 use Rattle.collection_attrs.specs.declared.surveys.Survey.{Survey}
 use Rattle.collection_attrs.specs.Surveys.{AreCollectionOf, Collections, IsSurveyed}
@@ -19,9 +19,9 @@ abbrev pub IsSurveyOf : {S : Type 0} → Program → Told S → CodedInstance �
 IsSurveyOf p t i None = Unit {0}
 IsSurveyOf p t i (Some s) = (c : Collections) → AreCollectionOf p i c → IsSurveyed p t c s
 
--- what a pass knows, as a reader of that alone, which knows every code
+-- what a pass knows, as a reader of that alone: it may be read by each naming that agrees with the pass, and knows the nodes that the pass knows
 abbrev pub reads_known : Program → View → Told Unit
-reads_known p v = record { for = λ q. q ≡ p; has = IsKnown p v; can = HasValue p; keeps = λ u. Unit {0}; names = NamesInOrder p; knows = λ c. Unit {0}; height = λ c. c }
+reads_known p v = record { for = λ q. q ≡ p; has = IsKnown p v; can = HasValue p; keeps = λ u. Unit {0}; names = Agrees p v.made; knows = IsKnownNode v.made; height = λ c. c }
 
 -- all that an evaluation of the equation of an instance left behind is so, by what a reader has
 pub record AreLeft {S : Type 0} (s : System) (t : Told S) (i : CodedInstance) (l : Left) : Type 0 where

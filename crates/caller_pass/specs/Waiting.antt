@@ -13,6 +13,7 @@ use Rattle.equation_law.specs.Names.{Instance}
 use Rattle.equation_law.specs.Program.{Program}
 use Rattle.memo_cells.specs.declared.view.Frame.{Frame}
 use Rattle.memo_cells.specs.declared.view.View.{View}
+use Rattle.memo_cells.specs.Agreeing.{IsKnownInstance}
 use Rattle.memo_cells.specs.Naming.{IsCellOf, LacksCell}
 use Rattle.memo_cells.specs.Standing.{Knows}
 use Rattle.memo_cells.specs.Views.{Has}
@@ -36,9 +37,9 @@ way_of x = unboxed x.way
 abbrev pub waits : List (CodedInstance × Waiter) → CodedInstance → Bool
 waits es i = list_any (equality.ghosts.eq i) (keys_of es)
 
--- a local set that begins with i: it is one of each program of which i is a circular instance, whatever its cells are
+-- a local set that begins with i: it is one of each program of which i is a circular instance, whatever its cells are, where the pass knows the nodes of i
 abbrev pub IsLocalFrom : CodedInstance → Local → Type 0
-IsLocalFrom i l = (p : Program) (names : Naming) (f : Frame) (v : View) → IsInstance p (instance_by p names i) → IsCoded p i → (equations_of p).circular (instance_by p names i) ≡ true → IsLocal p names f v l
+IsLocalFrom i l = (p : Program) (names : Naming) (f : Frame) (v : View) → IsInstance p (instance_by p names i) → IsCoded p i → IsKnownInstance p v.made i → (equations_of p).circular (instance_by p names i) ≡ true → IsLocal p names f v l
 
 -- i demands the start of this local set, which isn't seen sealed
 pub record IsWay (p : Program) (names : Naming) (f : Frame) (v : View) (i : Instance) (l : Local) : Type 0 where
@@ -50,10 +51,12 @@ abbrev pub IsWayOf : Program → Naming → Frame → View → Instance → Opti
 IsWayOf p names f v i None = Unit {0}
 IsWayOf p names f v i (Some l) = IsWay p names f v i l
 
--- an instance of the program that isn't circular, well coded, whose cell is seen claimed at its slot; what its evaluation left behind is so
+-- an instance of the program that isn't circular, well coded, whose cell is seen claimed at its slot; the pass knows its nodes, and what its evaluation left
+-- behind is so
 pub record IsPlaced (p : Program) (names : Naming) (f : Frame) (v : View) (e : CodedInstance × Waiter) : Type 0 where
   pub instance : IsInstance p (instance_by p names e.0)
   pub coded : IsCoded p e.0
+  pub known : IsKnownInstance p v.made e.0
   pub undeclared : (equations_of p).circular (instance_by p names e.0) ≡ false
   pub slot : IsCellOf p f v (instance_by p names e.0) e.1.slot.0
   pub left : IsLeft f.system.value (reads_known p v) e.0 e.1.left
@@ -134,13 +137,13 @@ AnswersWait p names f v es next new (Err (Circular on chain)) = (on ≡ next) ×
 AnswersWait p names f v es next new (Err CellsFull) = LacksCell p f v (instance_by p names next)
 AnswersWait p names f v es next new (Err Memory) = Unit {0}
 
--- a local set stays exactly where its start isn't seen sealed
-abbrev pub WayStays : Program → Naming → View → Option Local → Option Local → Type 0
-WayStays p names v None way = way ≡ None
-WayStays p names v (Some l) None = IsCoded p l.start → Knows p v (instance_by p names l.start)
-WayStays p names v (Some l) (Some m) = (m ≡ l) × (IsCoded p l.start → ¬ Knows p v (instance_by p names l.start))
+-- a local set stays exactly where its start isn't seen sealed: `u` is what was known before, and `v` what is known
+abbrev pub WayStays : Program → Naming → View → View → Option Local → Option Local → Type 0
+WayStays p names u v None way = way ≡ None
+WayStays p names u v (Some l) None = IsCoded p l.start → IsKnownInstance p u.made l.start → Knows p v (instance_by p names l.start)
+WayStays p names u v (Some l) (Some m) = (m ≡ l) × (IsCoded p l.start → IsKnownInstance p u.made l.start → ¬ Knows p v (instance_by p names l.start))
 
-pub record LooksAgain (p : Program) (names : Naming) (v : View) (old new : Waiter) : Type 0 where
+pub record LooksAgain (p : Program) (names : Naming) (u v : View) (old new : Waiter) : Type 0 where
   pub slot : new.slot ≡ old.slot
   pub left : new.left ≡ old.left
-  pub way : WayStays p names v (way_of old) (way_of new)
+  pub way : WayStays p names u v (way_of old) (way_of new)

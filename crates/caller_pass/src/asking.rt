@@ -4,14 +4,14 @@ ghost use Rattle.equation_law.specs.declared.coding.Instance.{Instance as CodedI
 ghost use Rattle.equation_law.specs.Checked.{IsProgram};
 ghost use Rattle.equation_law.specs.Codes.{IsCoded};
 ghost use Rattle.equation_law.specs.Systems.{program_of};
+ghost use Rattle.memo_cells.specs.Agreeing.{IsKnownInstance};
 ghost use Rattle.memo_cells.specs.Causes.{IsLogOn};
 ghost use Rattle.memo_cells.specs.Standing.{IsPassOf};
 ghost use Rattle.memo_cells.specs.Views.{Has, IsAtLeast};
-ghost use Rattle.memo_cells.specs.Working.{GoesOn, IsCodedAt, IsInstanceAt, IsInstanceByEach, IsOwn};
+ghost use Rattle.memo_cells.specs.Working.{GoesOn, IsCodedAt, IsInstanceAt, IsKnownAt, IsOwn};
 ghost use Rattle.caller_pass.specs.Answering.{AnswersChain, AsksByEach, AsksNotedByEach};
-ghost use Rattle.caller_pass.specs.Keeping.{IsNotebookOf};
-ghost use Rattle.caller_pass.specs.Noting.{MayNote};
-ghost use Rattle.caller_pass.specs.Holding.{AsksNotedAt, IsProgramAt, SolvesAt};
+ghost use Rattle.caller_pass.specs.Keeping.{IsNotebookOf, KeepsLoopsOf};
+ghost use Rattle.caller_pass.specs.Holding.{AsksNotedAt, IsInstanceByEach, IsProgramAt, SolvesAt};
 
 use crate::desk::Desk;
 use crate::evals::Steps;
@@ -36,6 +36,7 @@ fn settle<L: Ledger>(
     requires own { IsOwn desk.old }
     requires instance { IsInstanceAt desk.old i }
     requires coded { IsCodedAt desk.old i }
+    requires known { IsKnownAt desk.old i }
     ensures on { GoesOn desk.old desk.new }
     ensures solved { SolvesAt desk.old desk.new i evals.old evals.new result }
 {
@@ -55,6 +56,7 @@ fn answer<L: Ledger>(
     requires program { IsProgramAt desk.old }
     requires instance { IsInstanceAt desk.old i }
     requires coded { IsCodedAt desk.old i }
+    requires known { IsKnownAt desk.old i }
     ensures on { GoesOn desk.old desk.new }
     ensures asked { AsksNotedAt desk.old desk.new i evals.old evals.new result }
 {
@@ -82,8 +84,9 @@ fn ask_at<L: Ledger>(
     requires same { cells.now.system.value ≡ system.now }
     requires own { IsPassOf cells.now pass.old }
     requires notes { IsNotebookOf system.now pass.old notes }
-    requires instance { IsInstanceByEach (program_of system.now) i.now }
+    requires instance { IsInstanceByEach (program_of system.now) pass.old i.now }
     requires coded { IsCoded (program_of system.now) i.now }
+    requires known { IsKnownInstance (program_of system.now) pass.old.made i.now }
     ensures own { IsPassOf cells.now pass.new }
     ensures kept { IsAtLeast pass.old pass.new }
     ensures log { IsLogOn pass.old pass.new }
@@ -118,8 +121,9 @@ fn ask_alone<L: Ledger>(
     requires program { IsProgram (program_of system.now) }
     requires same { cells.now.system.value ≡ system.now }
     requires own { IsPassOf cells.now pass.old }
-    requires instance { IsInstanceByEach (program_of system.now) i.now }
+    requires instance { IsInstanceByEach (program_of system.now) pass.old i.now }
     requires coded { IsCoded (program_of system.now) i.now }
+    requires known { IsKnownInstance (program_of system.now) pass.old.made i.now }
     ensures own { IsPassOf cells.now pass.new }
     ensures kept { IsAtLeast pass.old pass.new }
     ensures log { IsLogOn pass.old pass.new }
@@ -152,8 +156,7 @@ fn round(on: Instance, chain: Chain) -> AskFault
 
 /// Notes the loops that an answer tells of.
 fn note_loops(notes: &mut Notebook, came: &Result<Value, AskFault>)
-    requires { MayNote (program_of notes.old.system) came.now }
-    ensures { notes.new ≡ notes.old }
+    ensures { KeepsLoopsOf notes.old came.now notes.new }
 {
     if let Err(AskFault::Circular { chain, .. }) = came {
         notes.note_loops(chain.list());
@@ -177,8 +180,9 @@ pub fn ask<L: Ledger>(
     requires program { IsProgram (program_of system.now) }
     requires same { cells.now.system.value ≡ system.now }
     requires own { IsPassOf cells.now pass.old }
-    requires instance { IsInstanceByEach (program_of system.now) i.now }
+    requires instance { IsInstanceByEach (program_of system.now) pass.old i.now }
     requires coded { IsCoded (program_of system.now) i.now }
+    requires known { IsKnownInstance (program_of system.now) pass.old.made i.now }
     ensures own { IsPassOf cells.now pass.new }
     ensures kept { IsAtLeast pass.old pass.new }
     ensures log { IsLogOn pass.old pass.new }
@@ -207,8 +211,9 @@ pub fn ask_noted<L: Ledger>(
     requires same { cells.now.system.value ≡ system.now }
     requires own { IsPassOf cells.now pass.old }
     requires notes { IsNotebookOf system.now pass.old notes.old }
-    requires instance { IsInstanceByEach (program_of system.now) i.now }
+    requires instance { IsInstanceByEach (program_of system.now) pass.old i.now }
     requires coded { IsCoded (program_of system.now) i.now }
+    requires known { IsKnownInstance (program_of system.now) pass.old.made i.now }
     ensures own { IsPassOf cells.now pass.new }
     ensures kept { IsAtLeast pass.old pass.new }
     ensures log { IsLogOn pass.old pass.new }

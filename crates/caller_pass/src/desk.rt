@@ -73,6 +73,8 @@ impl Reader for Desk<'_> {
     }
 
     fn made_order(&mut self, a: NodeRef, b: NodeRef) -> Ordering {
+        // What the pass knows is known of the desk once its cells are read: only source nodes, whose codes are in their order.
+        let _cells = self.cells;
         a.0.cmp(&b.0)
     }
 }
@@ -139,6 +141,7 @@ impl<'a> Desk<'a> {
     pub(crate) fn settled_code(&mut self, i: Instance) -> Option<(Slot, Code)>
         ensures on { ReadsOn self.old self.new }
         ensures known { FindsCodeAt self.old self.new i result }
+        ensures its { IfSome result (λ x. IsKnownCell self.new i x.0) }
         ensures cause { IfNone result (WhyUnknownAt self.old self.new i) }
         ensures cell { IfSome result (λ x. HasCellThen self.old self.new x.0.0) }
     {
@@ -191,7 +194,7 @@ impl<'a> Desk<'a> {
 
     /// Notes the value of an instance, if it is of a set type.
     pub(crate) fn note_set(&mut self, i: Instance, kind: Kind, value: &Value)
-        requires { IsNoted (program_at self.old) i value.now }
+        requires { IsNoted (program_at self.old) self.old.view.made i value.now }
         ensures { self.new ≡ self.old }
     {
         if !is_set(kind) {

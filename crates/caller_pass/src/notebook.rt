@@ -1,20 +1,19 @@
 // What a caller notes of a program.
-ghost use Rattle.std.specs.Prelude.{◌≡◌, ◌⊎◌, ◌<◌, IfNone, IfSome, Some, length, true};
-ghost use Rattle.std.specs.HashSet.{contains};
+ghost use Rattle.std.specs.Prelude.{◌≡◌, ◌⊎◌, ◌<◌, IfNone, IfSome, List, Some, length, true};
 ghost use Rattle.equation_law.specs.Checked.{HasSourcesAlone};
-ghost use Rattle.equation_law.specs.contracts.coding.InstancePartialEq.TheImpl as equality;
 ghost use Rattle.equation_law.specs.declared.coding.Instance.{Instance as CodedInstance};
-ghost use Rattle.equation_law.specs.Codes.{IsRow};
+ghost use Rattle.equation_law.specs.Codes.{IsRow, Naming};
+ghost use Rattle.equation_law.specs.Program.{Program};
 ghost use Rattle.equation_law.specs.Systems.{program_of};
 ghost use Rattle.memo_cells.specs.declared.view.View.{View};
-ghost use Rattle.memo_cells.specs.Views.{Has};
+ghost use Rattle.memo_cells.specs.Agreeing.{Agrees};
 ghost use Rattle.collection_attrs.specs.Roots.{IsRootOf, IsRootless};
 ghost use Rattle.collection_attrs.specs.Surveys.{Collections, IsCollectorOf};
 ghost use Rattle.collection_attrs.specs.Walks.{Walk, new_walk};
 ghost use Rattle.caller_pass.specs.declared.walks.Walked.{Walked};
-ghost use Rattle.caller_pass.specs.Keeping.{IsNotebookOf, walk_at};
+ghost use Rattle.caller_pass.specs.Keeping.{IsNotebookOf, SameButWalks, walk_at};
 ghost use Rattle.inherited_walk.specs.Sites.{FindsEquation, IsSourceSite};
-ghost use Rattle.caller_pass.specs.Noting.{IsLooping, IsNoted, KeepsAtMost};
+ghost use Rattle.caller_pass.specs.Noting.{AreNoted, IsNoted, KeepsAmong, KeepsAtMost, is_kept};
 
 use crate::walks::Walks;
 use attr_rules::AttrId;
@@ -26,8 +25,8 @@ use std::collections::{HashMap, HashSet};
 use std::marker::Model;
 use std::snapshot::Snapshot;
 
-/// What one caller has found out of a system's program. A note is a fact of the program alone, so it holds whatever the caller does later. What is
-/// kept of walks is a fact of the cells that the caller's pass has seen settled, so it holds as long as the pass goes on.
+/// What one caller has found out of a system's program. A note is a fact of the program and of what codes stand for, as the caller's pass knows it, and
+/// what is kept of walks is one of the cells that the pass has seen settled: so both hold as long as the pass goes on.
 #[derive(Drop)]
 pub struct Notebook {
     system: Snapshot<System>,
@@ -45,21 +44,21 @@ pub struct Notebook {
 
 // Keeps the value of an instance, if there is memory for that.
 fn keep(sets: &mut HashMap<Instance, Value>, i: Instance, value: Value)
-    ensures { KeepsAtMost sets.old i value sets.new }
+    ensures { KeepsAtMost sets.old.entries i value sets.new.entries }
 {
     let _noted = sets.insert(i, value);
 }
 
 // Puts an instance among others, if there is memory for that.
 fn put(among: &mut HashSet<Instance>, one: Instance)
-    ensures { (i : CodedInstance) → contains equality.ghosts.eq among.new i ≡ true → (contains equality.ghosts.eq among.old i ≡ true) ⊎ (i ≡ one) }
+    ensures { (i : CodedInstance) → is_kept among.new.keys i ≡ true → (is_kept among.old.keys i ≡ true) ⊎ (i ≡ one) }
 {
     let _put = among.insert(one);
 }
 
 // Puts instances among others, as far as there is memory for that.
 fn put_all(among: &mut HashSet<Instance>, more: &[Instance])
-    ensures { (i : CodedInstance) → contains equality.ghosts.eq among.new i ≡ true → (contains equality.ghosts.eq among.old i ≡ true) ⊎ Has more.now i }
+    ensures { KeepsAmong among.old.keys more.now among.new.keys }
 {
     for one in more {
         put(among, *one);
@@ -70,17 +69,15 @@ impl Model for Notebook {
     ghost use Rattle.std.specs.Prelude.{◌≡◌};
     ghost use Rattle.std.specs.Coded.{codes};
     ghost use Rattle.attr_rules.specs.contracts.expression.TExpr as expressions;
-    ghost use Rattle.equation_law.specs.Systems.{program_of};
     ghost use Rattle.caller_pass.specs.Keeping.{Notes};
-    ghost use Rattle.caller_pass.specs.Noting.{AreLooping, AreNoted};
 
     ghost Value = { Notes };
 
     ghost coded = { Prim.hlevel (codes, expressions.the_row.coded) };
 
-    ghost view = { λ n. record { system = n.system.value; walks = n.walks } };
+    ghost view = { λ n. record { system = n.system.value; sets = n.sets.entries; loops = n.loops.keys; walks = n.walks } };
 
-    ghost invariant = { λ n. AreNoted (program_of n.system.value) n.sets × AreLooping (program_of n.system.value) n.loops × (n.ways ≡ n.system.value) × (n.roots ≡ n.system.value) };
+    ghost invariant = { λ n. (n.ways ≡ n.system.value) × (n.roots ≡ n.system.value) };
 }
 
 impl Notebook {
@@ -100,7 +97,7 @@ impl Notebook {
 
     /// The value that is noted of an instance.
     pub(crate) fn set(&self, i: &Instance) -> Option<Value>
-        ensures { IfSome result (λ x. IsNoted (program_of self.now.system) i.now x) }
+        ensures { (p : Program) (ms : List CodedInstance) (names : Naming) → Agrees p ms names → AreNoted p ms self.now.sets → IfSome result (IsNoted p ms i.now) }
     {
         let value = self.sets.get(i)?;
         value.copy().ok()
@@ -108,23 +105,23 @@ impl Notebook {
 
     /// Notes the value of an instance, if there is memory for that.
     pub(crate) fn note_set(&mut self, i: Instance, value: Value)
-        requires { IsNoted (program_of self.old.system) i value }
-        ensures { self.new ≡ self.old }
+        ensures others { (self.new.system ≡ self.old.system) × (self.new.loops ≡ self.old.loops) × (self.new.walks ≡ self.old.walks) }
+        ensures sets { KeepsAtMost self.old.sets i value self.new.sets }
     {
         keep(&mut self.sets, i, value);
     }
 
     /// Whether it is noted that an instance has a loop.
     pub(crate) fn has_loop(&self, i: &Instance) -> bool
-        ensures { result ≡ true → IsLooping (program_of self.now.system) i.now }
+        ensures { result ≡ is_kept self.now.loops i.now }
     {
         self.loops.contains(i)
     }
 
     /// Notes that each of these instances has a loop, if there is memory for that.
     pub(crate) fn note_loops(&mut self, chain: &[Instance])
-        requires { (i : CodedInstance) → Has chain.now i → IsLooping (program_of self.old.system) i }
-        ensures { self.new ≡ self.old }
+        ensures others { (self.new.system ≡ self.old.system) × (self.new.sets ≡ self.old.sets) × (self.new.walks ≡ self.old.walks) }
+        ensures loops { KeepsAmong self.old.loops chain.now self.new.loops }
     {
         put_all(&mut self.loops, chain);
     }
@@ -162,7 +159,7 @@ impl Notebook {
 
     /// Takes away the walk over what is offered to a collection attribute in the subtree of a root, or begins one.
     pub(crate) fn take_walk(&mut self, alloc: Global, attr: AttrId, root: u32) -> Offers
-        ensures system { self.new.system ≡ self.old.system }
+        ensures same { SameButWalks self.old self.new }
         ensures of { (result.attribute ≡ attr.0) × (result.root ≡ root) }
         ensures walk { (result ≡ new_walk attr.0 root) ⊎ ((k : Walked) × (walk_at self.old.walks k ≡ Some result)) }
         ensures others { (k : Walked) (w : Walk) → walk_at self.new.walks k ≡ Some w → walk_at self.old.walks k ≡ Some w }
@@ -172,7 +169,7 @@ impl Notebook {
 
     /// Keeps a walk, if there is memory for that.
     pub(crate) fn put_walk(&mut self, offers: Offers)
-        ensures system { self.new.system ≡ self.old.system }
+        ensures same { SameButWalks self.old self.new }
         ensures walks { (k : Walked) (w : Walk) → walk_at self.new.walks k ≡ Some w → (walk_at self.old.walks k ≡ Some w) ⊎ (w ≡ offers) }
     {
         self.walks.put(offers);

@@ -3,7 +3,7 @@ ghost use Rattle.std.specs.Prelude.{◌≡◌, IfNone, IfSome, None};
 ghost use Rattle.collection_attrs.specs.Surveys.{IsNew, SaysCollection};
 ghost use Rattle.equation_law.specs.Codes.{IsCoded, instance_of};
 ghost use Rattle.equation_law.specs.Equations.{collection_of};
-ghost use Rattle.equation_law.specs.Reading.{IsSound};
+ghost use Rattle.equation_law.specs.Reading.{IsSound, KnowsInstance};
 ghost use Rattle.equation_law.specs.Systems.{program_of};
 ghost use Rattle.expr_eval.specs.Saved.{AreSaved};
 ghost use Rattle.expr_eval.specs.Sites.{EvaluatesInstance};
@@ -30,6 +30,7 @@ fn resume_single<'a>(
     requires sound { IsSound (program_of system.now) (told_by desk.old) }
     requires saved { AreSaved system.now (told_by desk.old) saved.old }
     requires coded { IsCoded (program_of system.now) i }
+    requires known { KnowsInstance (program_of system.now) (told_by desk.old) i }
     requires single { collection_of (program_of system.now) (instance_of (program_of system.now) i) ≡ None }
     ensures evaluates { EvaluatesInstance (program_of system.now) (told_by desk.old) (told_by desk.new) i result }
     ensures saved { AreSaved system.now (told_by desk.new) saved.new }
@@ -95,6 +96,7 @@ pub(crate) fn resume<'a>(
     requires sound { IsSound (program_of system.now) (told_by desk.old) }
     requires left { AreLeft system.now (told_by desk.old) i left.old }
     requires coded { IsCoded (program_of system.now) i }
+    requires known { KnowsInstance (program_of system.now) (told_by desk.old) i }
     ensures evaluates { EvaluatesInstance (program_of system.now) (told_by desk.old) (told_by desk.new) i result }
     ensures left { AreLeft system.now (told_by desk.new) i left.new }
 {

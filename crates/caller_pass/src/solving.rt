@@ -1,7 +1,7 @@
 // Settling an instance on demand, with an explicit stack of what waits.
 ghost use Rattle.std.specs.Prelude.{◌≡◌, ◌⊎◌, ◌++◌, ◌∷◌, [], false, true, IfOk, IsOk};
 ghost use Rattle.circular_eval.specs.Local.{IsLocalAt, IsStillLocal};
-ghost use Rattle.memo_cells.specs.Working.{ClaimsKeysAt, GoesOn, IsCodedAt, IsInstanceAt, IsOwn, ReadsOn};
+ghost use Rattle.memo_cells.specs.Working.{ClaimsKeysAt, GoesOn, IsCodedAt, IsInstanceAt, IsKnownAt, IsOwn, ReadsOn};
 ghost use Rattle.caller_pass.specs.Answering.{ClosesLocal, SolvesNeed};
 ghost use Rattle.caller_pass.specs.Waiting.{IsBehind, IsLocalFrom, waits};
 ghost use Rattle.caller_pass.specs.Holding.{AnswersWaitAt, GoesThroughAt, HasLoopAt, HasTurnAt, IsCircularAt, IsFrameAt, IsMissingAt, IsProgramAt, IsUndeclaredAt, IsUnknownAt, LeavesOneAt, LooksAgainAt, SolvesAt, TakesTurnAt};
@@ -53,6 +53,7 @@ fn evaluate<'a, L: Ledger>(
     evals: &mut Steps<L>,
 ) -> Result<Went, AskFault>
     requires program { IsProgramAt desk.old }
+    requires own { IsOwn desk.old }
     requires turn { HasTurnAt desk.old (i, waiter.old) }
     requires unsettled { IsUnknownAt desk.old i }
     ensures went { GoesThroughAt desk.old desk.new i waiter.old waiter.new evals.old evals.new result }
@@ -95,6 +96,7 @@ fn step<'a, L: Ledger>(
     evals: &mut Steps<L>,
 ) -> Result<Went, AskFault>
     requires program { IsProgramAt desk.old }
+    requires own { IsOwn desk.old }
     requires frame { IsFrameAt desk.old (i, waiter.old) }
     ensures went { TakesTurnAt desk.old desk.new i waiter.old waiter.new evals.old evals.new result }
 {
@@ -123,6 +125,7 @@ fn wait_for<'a>(
 ) -> Result<Waiter<'a>, AskFault>
     requires next { IsInstanceAt desk.old next }
     requires coded { IsCodedAt desk.old next }
+    requires known { IsKnownAt desk.old next }
     requires own { IsOwn desk.old }
     requires other { waits waiting.old last.0 ≡ false }
     ensures on { GoesOn desk.old desk.new }
@@ -170,6 +173,7 @@ fn solve<L: Ledger>(
     requires own { IsOwn desk.old }
     requires instance { IsInstanceAt desk.old i }
     requires coded { IsCodedAt desk.old i }
+    requires known { IsKnownAt desk.old i }
     requires undeclared { IsUndeclaredAt desk.old i }
     ensures on { GoesOn desk.old desk.new }
     ensures solved { SolvesAt desk.old desk.new i evals.old evals.new result }
@@ -211,6 +215,7 @@ pub(crate) fn solve_unless_noted<L: Ledger>(
     requires own { IsOwn desk.old }
     requires instance { IsInstanceAt desk.old i }
     requires coded { IsCodedAt desk.old i }
+    requires known { IsKnownAt desk.old i }
     requires undeclared { IsUndeclaredAt desk.old i }
     ensures on { GoesOn desk.old desk.new }
     ensures solved { SolvesAt desk.old desk.new i evals.old evals.new result }
@@ -291,6 +296,7 @@ pub(crate) fn close<L: Ledger>(
     requires own { IsOwn desk.old }
     requires instance { IsInstanceAt desk.old i }
     requires coded { IsCodedAt desk.old i }
+    requires known { IsKnownAt desk.old i }
     requires is_circular { IsCircularAt desk.old i }
     ensures on { GoesOn desk.old desk.new }
     ensures solved { SolvesAt desk.old desk.new i evals.old evals.new result }

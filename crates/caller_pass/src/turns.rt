@@ -3,7 +3,7 @@ ghost use Rattle.std.specs.Prelude.{◌≡◌, ◌+◌, not};
 ghost use Rattle.attr_rules.specs.Rules.{is_single};
 ghost use Rattle.circular_eval.specs.Advancing.{AnswersTurnAt};
 ghost use Rattle.circular_eval.specs.Local.{IsLocalAt, IsStillLocal};
-ghost use Rattle.memo_cells.specs.Working.{ClaimsKeysFor, GoesOn, IsCellNow, IsCodedAt, IsInstanceAt, IsOwn, ReadsOn};
+ghost use Rattle.memo_cells.specs.Working.{ClaimsKeysFor, GoesOn, IsCellNow, IsCodedAt, IsInstanceAt, IsKnownAt, IsOwn, ReadsOn};
 ghost use Rattle.caller_pass.specs.Holding.{AnswersFinishAt, AnswersShowAt, AreLeftAt, AreLeftNow, HasEndedAt, IsProgramAt, IsUndeclaredAt, TurnsToAt};
 
 use crate::desk::Desk;
@@ -37,6 +37,7 @@ pub(crate) fn turn<'a, L: Ledger>(
     evals: &mut Steps<L>,
 ) -> Result<Turn, Memory>
     requires coded { IsCodedAt desk.old i }
+    requires known { IsKnownAt desk.old i }
     requires left { AreLeftAt desk.old i left.old }
     ensures on { ReadsOn desk.old desk.new }
     ensures turned { TurnsToAt desk.old desk.new i result }
@@ -81,6 +82,7 @@ fn show(
     requires program { IsProgramAt desk.old }
     requires own { IsOwn desk.old }
     requires instance { IsInstanceAt desk.old i }
+    requires known { IsKnownAt desk.old i }
     requires undeclared { IsUndeclaredAt desk.old i }
     requires slot { IsCellNow desk.old i slot.0 }
     requires ended { HasEndedAt desk.old i value.now }
@@ -107,6 +109,7 @@ pub(crate) fn finish(
     requires program { IsProgramAt desk.old }
     requires own { IsOwn desk.old }
     requires instance { IsInstanceAt desk.old i }
+    requires known { IsKnownAt desk.old i }
     requires undeclared { IsUndeclaredAt desk.old i }
     requires slot { IsCellNow desk.old i slot.0 }
     requires ended { HasEndedAt desk.old i value.now }

@@ -1,3 +1,4 @@
 pub mod Answered
 pub mod OneReply
 pub mod ReplyLines
+pub mod Sources

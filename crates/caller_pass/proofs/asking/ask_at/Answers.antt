@@ -8,8 +8,10 @@ use Rattle.memo_cells.specs.declared.view.View.{View}
 use Rattle.memo_cells.specs.Causes.{IsLogOn}
 use Rattle.memo_cells.specs.Standing.{IsPassOf}
 use Rattle.memo_cells.specs.Views.{IsAtLeast}
-use Rattle.memo_cells.specs.Working.{Held, IsInstanceByEach}
+use Rattle.memo_cells.specs.Agreeing.{IsKnownInstance}
+use Rattle.memo_cells.specs.Working.{Held}
 use Rattle.caller_pass.specs.Answering.{AsksNotedByEach}
+use Rattle.caller_pass.specs.Holding.{IsInstanceByEach}
 use Rattle.caller_pass.specs.Keeping.{IsNotebookOf}
 use Rattle.memo_cells.proofs.Holding.{own_then}
 use Rattle.caller_pass.proofs.asking.ask_at.Goals as goal
@@ -21,10 +23,13 @@ pub answer-came-requires-clause-program : goal.answer-came-requires-clause-progr
 answer-came-requires-clause-program g c = subst (λ (s : System). IsProgram (program_of s)) (sym c.requires.same) c.requires.program
 
 pub answer-came-requires-clause-instance : goal.answer-came-requires-clause-instance
-answer-came-requires-clause-instance g c = subst (λ (s : System). IsInstanceByEach (program_of s) c.args.i.now) (sym c.requires.same) c.requires.instance
+answer-came-requires-clause-instance g c = subst (λ (s : System). IsInstanceByEach (program_of s) c.args.pass.now c.args.i.now) (sym c.requires.same) c.requires.instance
 
 pub answer-came-requires-clause-coded : goal.answer-came-requires-clause-coded
 answer-came-requires-clause-coded g c = subst (λ (s : System). IsCoded (program_of s) c.args.i.now) (sym c.requires.same) c.requires.coded
+
+pub answer-came-requires-clause-known : goal.answer-came-requires-clause-known
+answer-came-requires-clause-known g c = subst (λ (s : System). IsKnownInstance (program_of s) c.args.pass.now.made c.args.i.now) (sym c.requires.same) c.requires.known
 
 pub returns-clause-own : goal.returns-clause-own
 returns-clause-own g c = subst (λ (v : View). IsPassOf c.args.cells.now v) (sym ((c.pass-1.given.1 (sym (ap (λ (h : Held). h.lender) c.desk.view_is ∙ c.answer-came.ensures.on.lender))) ∙ ap (λ (h : Held). h.view) c.desk.view_is)) (own_then _ c.answer-came.new.desk c.answer-came.ensures.on)

@@ -6,9 +6,8 @@ use Rattle.equation_law.specs.declared.coding.Instance.TheVariants.{Attr as attr
 use Rattle.equation_law.specs.Codes.{codes_in, instance_of, source_names}
 use Rattle.equation_law.specs.Equations.{collection_of}
 use Rattle.equation_law.specs.Program.{attribute_parameters, text_of}
-use Rattle.equation_law.specs.Reading.{IsSound}
+use Rattle.equation_law.specs.Reading.{AreKnownCodes, IsSound, KnowsInstance}
 use Rattle.equation_law.specs.Systems.{program_of}
-use Rattle.equation_law.proofs.Grown.{each_codes, each_instance}
 use Rattle.expr_eval.specs.Saved.{AreSaved}
 use Rattle.expr_eval.specs.Sites.{EvaluatesInstance}
 use Rattle.inherited_walk.specs.Sites.{FindsEquation, IsSourceSite}
@@ -28,14 +27,16 @@ resume_at-requires-clause-found c = λ n is.
     let found = subst (λ (s : System). FindsEquation (program_of s) c.in-Attr.attr c.in-Attr.node c.in-Attr.args c.site-site.result) c.requires.same c.site-site.ensures.found in
     found n (c.requires.sound.named n (subst (λ (d : Held). (told_by d).names n) c.site-site.ensures.same is))
 
--- the equation is read at a source node, with arguments that the desk knows as it knows every code
+-- the equation is read at a source node, with the arguments of the instance, which the desk knows
 pub resume_at-requires-clause-known : goal.resume_at-requires-clause-known
 resume_at-requires-clause-known c =
     let p = program_of c.args.system.now in
     let e = c.site-site.new.self in
     let a = c.in-Attr.attr.0 in
     let at = subst (λ (s : System). IfSome c.site-site.result (IsSourceSite (program_of s) c.in-Attr.args)) c.requires.same c.site-site.ensures.source in
-    IfSome_then c.site-site.result at (site_known p (told_by e) (resume_at-requires-clause-sound c) a (each_codes (told_by e) (λ k. tt) (attribute_parameters p a) (codes_in c.in-Attr.args)))
+    let its = subst (λ (i : CodedInstance). KnowsInstance p (told_by c.args.desk.now) i) c.in-Attr.is c.requires.known in
+    let given = subst (λ (d : Held). AreKnownCodes (told_by d) (attribute_parameters p a) (codes_in c.in-Attr.args)) (sym c.site-site.ensures.same) its.1 in
+    IfSome_then c.site-site.result at (site_known p (told_by e) (resume_at-requires-clause-sound c) a given)
 
 pub resume_at-requires-clause-single : goal.resume_at-requires-clause-single
 resume_at-requires-clause-single c =
@@ -57,4 +58,4 @@ pub resume_instance-requires-clause-single : goal.resume_instance-requires-claus
 resume_instance-requires-clause-single c = λ n is. let p = program_of c.args.system.now in no_collection p (source_names (text_of p)) n c.args.i c.requires.single
 
 pub resume_instance-requires-clause-known : goal.resume_instance-requires-clause-known
-resume_instance-requires-clause-known c = each_instance (told_by c.args.desk.now) (λ k. tt) (program_of c.args.system.now) c.args.i
+resume_instance-requires-clause-known c = c.requires.known

@@ -1,13 +1,12 @@
 use Rattle.std.proofs.Common.{refl, subst, sym}
-use Rattle.equation_law.specs.Codes.{instance_of, source_names}
+use Rattle.equation_law.specs.Codes.{instance_by}
 use Rattle.equation_law.specs.Names.{Instance}
-use Rattle.equation_law.specs.Program.{text_of}
 use Rattle.equation_law.specs.Systems.{program_of}
-use Rattle.equation_law.proofs.Codes.{sources_named}
+use Rattle.made_trees.specs.Made.{naming_by_makers}
 use Rattle.memo_cells.specs.declared.view.Frame.{Frame}
 use Rattle.memo_cells.specs.Naming.{IsCellOf}
 use Rattle.memo_cells.specs.Working.{program_at}
-use Rattle.caller_pass.proofs.Sealing.{is_closed, looked_on, more_falls, more_fault, more_local, more_on, more_program, more_sealing, more_unknown, sealing_first, sealing_memory}
+use Rattle.caller_pass.proofs.Sealing.{is_closed, looked_on, more_falls, more_fault, more_local, more_on, more_program, more_sealing, more_unknown, sealing_first, sealing_memory, sealing_open}
 use Rattle.caller_pass.proofs.Solved.{no_cell}
 use Rattle.caller_pass.proofs.solving.close.Goals as goal
 
@@ -16,6 +15,9 @@ claim_instance-requires-clause-instance g c = c.requires.instance
 
 pub claim_instance-requires-clause-coded : goal.claim_instance-requires-clause-coded
 claim_instance-requires-clause-coded g c = c.requires.coded
+
+pub claim_instance-requires-clause-known : goal.claim_instance-requires-clause-known
+claim_instance-requires-clause-known g c = c.requires.known
 
 pub returns-in_err-slot-clause-on : goal.returns-in_err-slot-clause-on
 returns-in_err-slot-clause-on g c = c.in_err-slot.ensures.on
@@ -30,12 +32,12 @@ pub returns-in_err-local-clause-solved : goal.returns-in_err-local-clause-solved
 returns-in_err-local-clause-solved g c = sealing_memory c.args.i c.args.evals.now c.in_ok-slot.ensures.on c.in_ok-slot.ensures.claims c.from_residual-in_err-local.ensures
 
 pub closing-init : goal.closing-init
-closing-init g c = sealing_first c.args.i c.args.evals.now c.in_ok-slot.ensures.on c.in_ok-slot.ensures.claims c.in_ok-slot.ensures.slot c.requires.instance c.requires.coded c.requires.is_circular c.in_ok-local.ensures.start c.in_ok-local.ensures.local
+closing-init g c = sealing_first c.args.i c.args.evals.now c.in_ok-slot.ensures.on c.in_ok-slot.ensures.claims c.in_ok-slot.ensures.slot c.requires.instance c.requires.coded c.requires.known c.requires.is_circular c.in_ok-local.ensures.start c.in_ok-local.ensures.local
 
 pub is_settled-requires : goal.is_settled-requires
 is_settled-requires g c =
     let p = program_at c.args.desk.now in
-    subst (λ (f : Frame). (i : Instance) × IsCellOf (program_of f.system.value) f c.closing.desk.view i c.in_ok-slot.slot.0) (sym c.closing.invariant.cells) (instance_of p c.args.i, c.closing.invariant.cell (source_names (text_of p)) (sources_named p))
+    subst (λ (f : Frame). (i : Instance) × IsCellOf (program_of f.system.value) f c.closing.desk.view i c.in_ok-slot.slot.0) (sym c.closing.invariant.cells) (instance_by p (naming_by_makers p c.closing.desk.view.made) c.args.i, c.closing.invariant.cell _ (sealing_open c.closing.invariant))
 
 pub close_more-requires-clause-program : goal.close_more-requires-clause-program
 close_more-requires-clause-program g c = more_program c.closing.invariant c.is_settled.ensures.on c.is_settled.result c.is_settled.ensures.told c.closing-test.true c.is_settled.ensures.cause c.requires.program

@@ -1,4 +1,5 @@
 use Rattle.std.proofs.Common.{Some, sym, ap, subst, ◌∙◌}
+use Rattle.memo_cells.specs.Agreeing.{Agrees}
 use Rattle.memo_cells.specs.Working.{Held, ReadsOn, program_at}
 use Rattle.memo_cells.proofs.Holding.{reads_itself}
 use Rattle.caller_pass.specs.Waiting.{unboxed}
@@ -19,15 +20,15 @@ returns-then-known-clause-looked c = λ names named. elim c.match-waiter.branch 
       let d = c.args.desk.now in
       let p = program_at d in
       let there = sym w.is_some-known.ensures ∙ sym w.known-is ∙ c.if-known.true in
-      looked_known p names w.settled_code.new.self.frame w.settled_code.new.self.view c.match-waiter.desk.view (ap (λ (e : Held). e.view) w.desk-is) c.args.waiter.now w.deref.result.now (ap unboxed w.in-Some.is ∙ ap Some (sym w.deref.ensures)) w.first.result w.first.ensures w.settled_code.result there (λ coded. w.settled_code.ensures.known coded names named)
+      looked_known p names w.settled_code.new.self.frame d.view w.settled_code.new.self.view c.match-waiter.desk.view (ap (λ (e : Held). e.view) w.desk-is) c.args.waiter.now w.deref.result.now (ap unboxed w.in-Some.is ∙ ap Some (sym w.deref.ensures)) w.first.result w.first.ensures w.settled_code.result there (λ coded its. w.settled_code.ensures.known coded its names (subst (λ (e : Held). Agrees p e.view.made names) w.desk-is named))
 ]
 
 pub returns-else-known-clause-looked : goal.returns-else-known-clause-looked
 returns-else-known-clause-looked c = λ names named. elim c.match-waiter.branch [
-  | in-None w ↦ looked_none (program_at c.args.desk.now) names c.match-waiter.desk.view c.args.waiter.now (ap unboxed w.in-None.is)
+  | in-None w ↦ looked_none (program_at c.args.desk.now) names c.args.desk.now.view c.match-waiter.desk.view c.args.waiter.now (ap unboxed w.in-None.is)
   | in-Some w ↦
       let d = c.args.desk.now in
       let p = program_at d in
       let none = sym w.is_some-known.ensures ∙ sym w.known-is ∙ c.if-known.false in
-      looked_unknown p names w.settled_code.new.self.frame w.settled_code.new.self.view c.match-waiter.desk.view (ap (λ (e : Held). e.view) w.desk-is) c.args.waiter.now w.deref.result.now (ap unboxed w.in-Some.is ∙ ap Some (sym w.deref.ensures)) w.first.result w.first.ensures w.settled_code.result none (λ coded. w.settled_code.ensures.known coded names named)
+      looked_unknown p names w.settled_code.new.self.frame d.view w.settled_code.new.self.view c.match-waiter.desk.view (ap (λ (e : Held). e.view) w.desk-is) c.args.waiter.now w.deref.result.now (ap unboxed w.in-Some.is ∙ ap Some (sym w.deref.ensures)) w.first.result w.first.ensures w.settled_code.result none (λ coded its. w.settled_code.ensures.known coded its names (subst (λ (e : Held). Agrees p e.view.made names) w.desk-is named))
 ]

@@ -1,7 +1,7 @@
 use Rattle.std.proofs.Common.{◌++◌, [], List, Ok, refl, ap, ◌∙◌}
 use Rattle.equation_law.specs.declared.coding.Instance.{Instance as CodedInstance}
 use Rattle.caller_pass.specs.declared.waiting.Waiter.{Waiter}
-use Rattle.caller_pass.proofs.Solved.{first_turn, next_coded, next_instance, no_cell, took_on, turn_back, turn_back_falls, turn_failed, turn_frame, turn_further, turn_further_falls, turn_leaves, turn_next, turn_next_falls, turn_on, turn_other, turn_program, turn_solved, wait_failed, wait_on}
+use Rattle.caller_pass.proofs.Solved.{first_turn, next_coded, next_instance, next_known, no_cell, took_on, turn_back, turn_back_falls, turn_failed, turn_frame, turn_further, turn_further_falls, turn_leaves, turn_next, turn_next_falls, turn_on, turn_other, turn_own, turn_program, turn_solved, wait_failed, wait_on}
 use Rattle.caller_pass.proofs.Stepping.{not_ok}
 use Rattle.caller_pass.proofs.solving.solve.Goals as goal
 
@@ -10,6 +10,9 @@ claim_instance-requires-clause-instance g c = c.requires.instance
 
 pub claim_instance-requires-clause-coded : goal.claim_instance-requires-clause-coded
 claim_instance-requires-clause-coded g c = c.requires.coded
+
+pub claim_instance-requires-clause-known : goal.claim_instance-requires-clause-known
+claim_instance-requires-clause-known g c = c.requires.known
 
 pub returns-in_err-claim_instance-clause-on : goal.returns-in_err-claim_instance-clause-on
 returns-in_err-claim_instance-clause-on g c = c.in_err-claim_instance.ensures.on
@@ -21,10 +24,13 @@ pub returns-in_err-claim_instance-clause-outer : goal.returns-in_err-claim_insta
 returns-in_err-claim_instance-clause-outer g c = λ ok. not_ok c.from_residual.result c.from_residual.ensures.0 ok
 
 pub turns-init : goal.turns-init
-turns-init g c = first_turn c.args.evals.now c.requires.own c.in_ok-claim_instance.ensures.on c.requires.instance c.requires.coded c.requires.undeclared c.in_ok-claim_instance.ensures.slot c.in_ok-claim_instance.ensures.claims c.new-waiting.result c.new-waiting.ensures
+turns-init g c = first_turn c.args.evals.now c.requires.own c.in_ok-claim_instance.ensures.on c.requires.instance c.requires.coded c.requires.known c.requires.undeclared c.in_ok-claim_instance.ensures.slot c.in_ok-claim_instance.ensures.claims c.new-waiting.result c.new-waiting.ensures
 
 pub step-requires-clause-program : goal.step-requires-clause-program
 step-requires-clause-program g c = turn_program c.turns.invariant c.requires.program
+
+pub step-requires-clause-own : goal.step-requires-clause-own
+step-requires-clause-own g c = turn_own c.turns.invariant
 
 pub step-requires-clause-frame : goal.step-requires-clause-frame
 step-requires-clause-frame g c = turn_frame c.turns.invariant
@@ -49,6 +55,9 @@ wait_for-requires-clause-next g c = next_instance c.turns.invariant c.requires.p
 
 pub wait_for-requires-clause-coded : goal.wait_for-requires-clause-coded
 wait_for-requires-clause-coded g c = next_coded c.turns.invariant c.requires.program c.in_ok-step.ensures.went (ap Ok c.in-Need.is)
+
+pub wait_for-requires-clause-known : goal.wait_for-requires-clause-known
+wait_for-requires-clause-known g c = next_known c.turns.invariant c.requires.program c.in_ok-step.ensures.went (ap Ok c.in-Need.is)
 
 pub wait_for-requires-clause-own : goal.wait_for-requires-clause-own
 wait_for-requires-clause-own g c = (took_on _ _ _ _ _ _ _ _ c.in_ok-step.ensures.went).own

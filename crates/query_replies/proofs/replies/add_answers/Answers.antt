@@ -6,6 +6,7 @@ use Rattle.equation_law.proofs.Pooled.{texts_pooled}
 use Rattle.memo_cells.proofs.More.{at_least_itself, at_least_then}
 use Rattle.caller_pass.proofs.Overfull.{asked_key, asked_more, overfull}
 use Rattle.query_replies.specs.Replies.{AreReplies}
+use Rattle.query_replies.proofs.Answered.{open_after}
 use Rattle.query_replies.proofs.ReplyLines.{all_replies, fault_was, next_reply}
 use Rattle.query_replies.proofs.replies.add_answers.Goals as goal
 
@@ -27,7 +28,7 @@ returns-in_err-add_answer-clause-full g c = λ is.
     let kept = c.in_err-add_answer.ensures.kept in
     let claims = asked_more p c.args.pass.now c.replies.pass c.add_answer.new.pass c.replies.query within so_far.2 kept c.in_err-add_answer.ensures.claims in
     let filled = c.in_err-add_answer.ensures.full (ap Err (fault_was c.from_residual.result c.in_err-add_answer.field-0.0 c.from_residual.ensures is)) in
-    overfull p (texts_pooled c.args.system.now) c.args.cells.now c.args.pass.now c.add_answer.new.pass c.requires.new.first c.in_err-add_answer.ensures.own (at_least_then so_far.1 kept) claims
+    overfull p (texts_pooled c.args.system.now) c.args.cells.now c.args.pass.now c.add_answer.new.pass c.requires.new.first c.in_err-add_answer.ensures.own (open_after c.args.system.now c.args.cells.now c.add_answer.new.pass c.requires.new.system c.in_err-add_answer.ensures.own) (at_least_then so_far.1 kept) claims
     filled.0 (asked_key p c.add_answer.new.pass c.replies.query filled.0 within filled.1) filled.2
 
 pub replies-preserved : goal.replies-preserved

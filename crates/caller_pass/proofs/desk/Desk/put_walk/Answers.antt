@@ -12,4 +12,4 @@ invariant_of-self c =
     let w = c.args.offers in
     let walk = subst (λ (s : System). IsWalk (program_of s) (reads_known (program_of s) c.self.inside.pass.now) w) c.self.invariant.1
     (subst (λ (h : Held). IsWalk (program_at h) (reads_known (program_at h) h.view) w) (sym c.self.view_is) c.requires) in
-    ((c.self.invariant.0.0, notes_more c.self.inside.system.now c.self.inside.pass.now c.self.inside.notes c.self.invariant.0.1 c.put_walk.new.self w c.put_walk.ensures.system c.put_walk.ensures.walks walk), c.self.invariant.1)
+    ((c.self.invariant.0.0, notes_more c.self.inside.system.now c.self.inside.pass.now c.self.inside.notes c.self.invariant.0.1 c.put_walk.new.self w c.put_walk.ensures.same c.put_walk.ensures.walks walk), c.self.invariant.1)

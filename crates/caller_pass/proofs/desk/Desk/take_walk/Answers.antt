@@ -8,7 +8,7 @@ use Rattle.caller_pass.proofs.Keeping.{notes_fewer, walk_taken}
 use Rattle.caller_pass.proofs.desk.Desk.take_walk.Goals as goal
 
 pub invariant_of-self : goal.invariant_of-self
-invariant_of-self c = ((c.self.invariant.0.0, notes_fewer c.self.inside.system.now c.self.inside.pass.now c.self.inside.notes c.self.invariant.0.1 c.take_walk.new.self c.take_walk.ensures.system c.take_walk.ensures.others), c.self.invariant.1)
+invariant_of-self c = ((c.self.invariant.0.0, notes_fewer c.self.inside.system.now c.self.inside.pass.now c.self.inside.notes c.self.invariant.0.1 c.take_walk.new.self c.take_walk.ensures.same c.take_walk.ensures.others), c.self.invariant.1)
 
 pub returns-clause-walk : goal.returns-clause-walk
 returns-clause-walk c =
