@@ -3,6 +3,7 @@ pub mod Contributed
 pub mod Counting
 pub mod FromParts
 pub mod Lately
+pub mod OtherCodes
 pub mod Singles
 pub mod Sites
 pub mod Sweeping

@@ -1,7 +1,9 @@
 // How many evaluations demand takes, as they are counted.
-ghost use Rattle.std.specs.Prelude.{◌≡◌, ◌<◌, IfOk, IfSome};
+ghost use Rattle.std.specs.Prelude.{◌≡◌, ◌<◌, [], IfOk, IfSome, true};
 ghost use Rattle.equation_law.specs.Checked.{HasSourcesAlone, IsProgram};
+ghost use Rattle.equation_law.specs.Program.{Program};
 ghost use Rattle.equation_law.specs.Systems.{program_of};
+ghost use Rattle.memo_cells.specs.Agreeing.{IsKnownInstance};
 ghost use Rattle.memo_cells.specs.Standing.{IsPassOf};
 ghost use Rattle.rag_tests.specs.Circular.{IsCircular};
 
@@ -172,11 +174,24 @@ fn loops_are_evaluated_again(rt: HostRuntime) {
     assert_eq!(rt; other_asked(rt.alloc(), &LOOP, &AGAIN), Ok(None));
 }
 
-// The circular instance that the first query leads to, if it leads to one.
+// Whether an instance is at null or a source node and has no arguments, so that its codes stand for the same whatever trees are made.
+fn is_at_source(i: &Instance) -> bool
+    ensures { result ≡ true → (p : Program) → IsKnownInstance p [] i.now }
+{
+    let Instance::Attr { node, args, .. } = *i else {
+        return true;
+    };
+    if node.is_made() {
+        return false;
+    }
+    args.code_at(0).is_none()
+}
+
+// The circular instance that the first query leads to, if it leads to one at a source node without arguments: so it is one in other cells too.
 fn circular_asked(alloc: Global, system: &System) -> Result<Option<Instance>, Memory>
     requires program { IsProgram (program_of system.now) }
     requires bare { HasSourcesAlone (program_of system.now) }
-    ensures { IfOk result (λ found. IfSome found (IsCircular (program_of system.now))) }
+    ensures { IfOk result (λ found. IfSome found (IsCircular (program_of system.now) [])) }
 {
     if system.replies() == 0 {
         return Ok(None);
@@ -186,7 +201,13 @@ fn circular_asked(alloc: Global, system: &System) -> Result<Option<Instance>, Me
         desk: Desk::new(alloc, system, &cells, &mut pass),
         demands: 0,
     };
-    first_circular(alloc, system, &mut work, Instance::Query(QueryId(0)))
+    let Some(i) = first_circular(alloc, system, &mut work, Instance::Query(QueryId(0)))? else {
+        return Ok(None);
+    };
+    if !is_at_source(&i) {
+        return Ok(None);
+    }
+    Ok(Some(i))
 }
 
 // How many evaluations it takes to ask twice for the circular instance that the first query leads to.

@@ -1,10 +1,11 @@
 // Demand over the systems that texts say: full cells, and what is known.
 ghost use Rattle.std.specs.Prelude.{◌≡◌, ◌<◌, IfOk, length};
 ghost use Rattle.equation_law.specs.Checked.{HasSourcesAlone, IsProgram};
-ghost use Rattle.equation_law.specs.Codes.{IsCoded, instance_of};
+ghost use Rattle.equation_law.specs.Codes.{IsCoded, instance_by};
 ghost use Rattle.equation_law.specs.Systems.{program_of};
+ghost use Rattle.memo_cells.specs.Agreeing.{ByEachAgreeing, IsKnownInstance};
 ghost use Rattle.memo_cells.specs.Standing.{IsPassOf, Knows};
-ghost use Rattle.memo_cells.specs.Working.{IsInstanceByEach};
+ghost use Rattle.caller_pass.specs.Holding.{IsInstanceByEach};
 
 use crate::programs::{Long, NOTHING, Texts, long_text, system_said};
 use caller_pass::{AskFault, Steps, ask};
@@ -188,9 +189,10 @@ fn ask_again<L: Ledger>(
     requires program { IsProgram (program_of system.now) }
     requires same { cells.now.system.value ≡ system.now }
     requires own { IsPassOf cells.now pass.old }
-    requires instance { IsInstanceByEach (program_of system.now) i.now }
+    requires instance { IsInstanceByEach (program_of system.now) pass.old i.now }
     requires coded { IsCoded (program_of system.now) i.now }
-    requires known { Knows (program_of system.now) pass.old (instance_of (program_of system.now) i.now) }
+    requires known { IsKnownInstance (program_of system.now) pass.old.made i.now }
+    requires settled { ByEachAgreeing (program_of system.now) pass.old.made (λ names. Knows (program_of system.now) pass.old (instance_by (program_of system.now) names i.now)) }
     ensures none { evals.new ≡ evals.old }
 {
     match ask(alloc, system, cells, pass, i, evals) {

@@ -37,6 +37,8 @@ mod resumed;
 #[cfg(test)]
 mod rows;
 #[cfg(test)]
+mod shown;
+#[cfg(test)]
 mod steps;
 #[cfg(test)]
 mod sweeps;

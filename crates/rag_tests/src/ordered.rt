@@ -8,7 +8,7 @@ use crate::rows::{At, Given, Row, Want, With, names_of, text_id};
 use attr_rules::AttrId;
 use broken_rules::ReadFault;
 use equation_law::{Args, Code, Instance, NodeRef, System};
-use made_trees::Makers;
+use made_trees::{Lent, Makers, order_of};
 use plain_rounds::plain_rounds;
 use rag_io::{Memory, Pool};
 use std::alloc::Global;
@@ -169,7 +169,7 @@ fn are_ordered(system: &System, makers: &Makers, roots: &[NodeRef], j: usize, k:
         return false;
     }
     match (node_code(roots, IN_ORDER[j]), node_code(roots, IN_ORDER[k])) {
-        (Some(one), Some(other)) => makers.order(system, one, other) == j.cmp(&k),
+        (Some(one), Some(other)) => order_of(&mut Lent(makers), system, one, other) == j.cmp(&k),
         _ => false,
     }
 }

@@ -108,7 +108,7 @@ fn rules_said(
 }
 
 /// The tree that a text says over a grammar. Its texts go into the pool.
-fn tree_said(
+pub(crate) fn tree_said(
     alloc: Global,
     grammar: &Grammar,
     text: &str,

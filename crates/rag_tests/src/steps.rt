@@ -9,7 +9,7 @@ use attr_rules::{AttrId, EqId};
 use broken_rules::ReadFault;
 use equation_law::{Args, Code, Instance, NodeRef, Reader, System, Up, Value};
 use inherited_walk::find_equation;
-use made_trees::Makers;
+use made_trees::{Lent, Makers, argument_of, child_of, class_of, order_of, up_of};
 use plain_rounds::{NameList, NamedArgs, NamedInstance, NodeName, plain_rounds};
 use rag_io::Memory;
 use std::alloc::Global;
@@ -34,14 +34,14 @@ impl Reader for Counting<'_> {
     }
 
     fn made_class(&mut self, node: NodeRef) -> ClassId {
-        match self.makers.made_class(self.system, node) {
+        match class_of(&mut Lent(self.makers), self.system, node) {
             Some(class) => class,
             None => ClassId(u16::MAX),
         }
     }
 
     fn made_child(&mut self, node: NodeRef, component: u32) -> NodeRef {
-        self.makers.child(self.system, node, component)
+        child_of(&mut Lent(self.makers), self.system, node, component)
     }
 
     fn made_token(&mut self, _node: NodeRef, _component: u32) -> Code {
@@ -50,15 +50,15 @@ impl Reader for Counting<'_> {
 
     fn made_up(&mut self, node: NodeRef) -> Up {
         self.steps = self.steps.saturating_add(1);
-        self.makers.up(self.system, node)
+        up_of(&mut Lent(self.makers), self.system, node)
     }
 
     fn made_arg(&mut self, node: NodeRef, k: u32) -> Code {
-        self.makers.arg(node, k)
+        argument_of(&mut Lent(self.makers), node, k)
     }
 
     fn made_order(&mut self, a: NodeRef, b: NodeRef) -> Ordering {
-        self.makers.order(self.system, a, b)
+        order_of(&mut Lent(self.makers), self.system, a, b)
     }
 }
 

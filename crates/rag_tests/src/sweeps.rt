@@ -4,7 +4,9 @@ ghost use Rattle.circular_eval.specs.Local.{IsLocalAt, IsStillLocal};
 ghost use Rattle.equation_law.specs.Checked.{HasSourcesAlone, IsProgram};
 ghost use Rattle.equation_law.specs.Codes.{IsCoded};
 ghost use Rattle.equation_law.specs.Systems.{program_of};
-ghost use Rattle.memo_cells.specs.Working.{GoesOn, IsForSystem, IsInstanceByEach, IsOwn, ReadsOn};
+ghost use Rattle.memo_cells.specs.Agreeing.{IsKnownInstance};
+ghost use Rattle.memo_cells.specs.Working.{GoesOn, IsForSystem, IsOwn, ReadsOn};
+ghost use Rattle.caller_pass.specs.Holding.{IsInstanceByEach};
 ghost use Rattle.rag_tests.specs.Circular.{IsCircular};
 
 use crate::programs::{Texts, system_said};
@@ -119,10 +121,11 @@ pub(crate) fn first_circular(
     requires program { IsProgram (program_of system.now) }
     requires same { IsForSystem work.old system.now }
     requires own { IsOwn work.old }
-    requires instance { IsInstanceByEach (program_of system.now) i }
+    requires instance { IsInstanceByEach (program_of system.now) work.old.view i }
     requires coded { IsCoded (program_of system.now) i }
+    requires known { IsKnownInstance (program_of system.now) work.old.view.made i }
     ensures on { ReadsOn work.old work.new }
-    ensures found { IfOk result (λ found. IfSome found (IsCircular (program_of system.now))) }
+    ensures found { IfOk result (λ found. IfSome found (IsCircular (program_of system.now) work.new.view.made)) }
 {
     let mut at = i;
     for _ in 0..3 {

@@ -2,6 +2,7 @@
 ghost use Rattle.std.specs.Prelude.{◌≡◌, ◌<◌};
 ghost use Rattle.equation_law.specs.Checked.{HasSourcesAlone, IsProgram};
 ghost use Rattle.equation_law.specs.Systems.{program_of};
+ghost use Rattle.tree_arena.specs.Nodes.{most_nodes};
 ghost use Rattle.memo_cells.specs.Working.{IsForSystem, IsOwn, ReadsOn, told_by};
 ghost use Rattle.collection_attrs.specs.Walks.{IsWalk};
 
@@ -43,13 +44,14 @@ fn sum_along(
     requires program { IsProgram (program_of system.now) }
     requires same { IsForSystem work.old system.now }
     requires own { IsOwn work.old }
+    requires node { node < most_nodes }
     requires walk { IsWalk (program_of system.now) (told_by work.old) offers.old }
     ensures on { ReadsOn work.old work.new }
     ensures walk { IsWalk (program_of system.now) (told_by work.new) offers.new }
 {
     let i = Instance::Attr {
         attr: SUM,
-        node: NodeRef(node.saturating_add(1)),
+        node: NodeRef(node + 1),
         args: Args::none(),
     };
     let Some(of) = collector_of(system, &i) else {

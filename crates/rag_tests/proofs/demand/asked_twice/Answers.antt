@@ -1,6 +1,5 @@
 -- The first query is an instance.
 use Rattle.equation_law.specs.Systems.{program_of}
-use Rattle.equation_law.proofs.Tied.{at_sources}
 use Rattle.query_replies.proofs.Answered.{query_instance}
 use Rattle.rag_tests.proofs.demand.asked_twice.Goals as goal
 
@@ -10,5 +9,5 @@ ask-requires-clause-instance g c = λ names named. query_instance (program_of c.
 pub ask_again-again-requires-clause-instance : goal.ask_again-again-requires-clause-instance
 ask_again-again-requires-clause-instance g c = λ names named. query_instance (program_of c.args.system.now) 0 c.requires.query
 
-pub ask_again-again-requires-clause-known : goal.ask_again-again-requires-clause-known
-ask_again-again-requires-clause-known g c = (at_sources (program_of c.args.system.now) _ c.in-Ok.ensures.asked).answer.1
+pub ask_again-again-requires-clause-settled : goal.ask_again-again-requires-clause-settled
+ask_again-again-requires-clause-settled g c = λ names agrees. (c.in-Ok.ensures.asked names agrees).answer.1

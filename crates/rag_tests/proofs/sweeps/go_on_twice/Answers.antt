@@ -27,10 +27,10 @@ first_circular-requires-clause-instance g c =
 pub go_on-first-requires-clause-local : goal.go_on-first-requires-clause-local
 go_on-first-requires-clause-local g c =
     let p = program_of c.args.system.now in
-    let is = subst (λ (o : Option CodedInstance). IfSome o (IsCircular p)) c.in-Some.is c.in_ok-start.ensures.found in
     let d = c.first_circular.new.work in
+    let is = subst (λ (o : Option CodedInstance). IfSome o (IsCircular p d.view.made)) c.in-Some.is c.in_ok-start.ensures.found in
     let same : d.frame.system.value ≡ c.args.system.now = search rules in
-    subst (λ (s : System). IsLocalByEach (program_of s) d.frame d.view c.in_ok-local.local) (sym same) (λ names named. c.in_ok-local.ensures.local p names d.frame d.view (is.instance names named) is.coded (is.is_circular names named))
+    subst (λ (s : System). IsLocalByEach (program_of s) d.frame d.view c.in_ok-local.local) (sym same) (λ names named. c.in_ok-local.ensures.local p names d.frame d.view (is.instance names named) is.coded is.known (is.is_circular names named))
 
 pub go_on-second-requires-clause-local : goal.go_on-second-requires-clause-local
 go_on-second-requires-clause-local g c =

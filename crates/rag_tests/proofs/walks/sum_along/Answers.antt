@@ -1,9 +1,11 @@
-use Rattle.std.proofs.Common.{◌≡◌, ap, arith}
+use Rattle.std.proofs.Common.{◌≡◌, ◌+◌, ap, arith}
+use Rattle.equation_law.specs.declared.coding.NodeRef.{NodeRef}
 use Rattle.equation_law.specs.Systems.{program_of}
 use Rattle.memo_cells.specs.Working.{told_by}
 use Rattle.memo_cells.proofs.Holding.{reads_itself}
 use Rattle.collection_attrs.proofs.Found.{walk_for_each}
 use Rattle.collection_attrs.proofs.Grown.{survey_new, walk_grows}
+use Rattle.circular_eval.proofs.Knowing.{source_known}
 use Rattle.caller_pass.proofs.Desks.{sound_for}
 use Rattle.rag_tests.proofs.walks.sum_along.Goals as goal
 
@@ -12,6 +14,11 @@ root_of-requires-clause-sound c = sound_for (program_of c.args.system.now) c.arg
 
 pub root_of-requires-clause-collection : goal.root_of-requires-clause-collection
 root_of-requires-clause-collection c = (c.in-Some.ensures.some.0, c.in-Some.ensures.some.2)
+
+pub root_of-requires-clause-known : goal.root_of-requires-clause-known
+root_of-requires-clause-known c =
+    let at : c.in-Some.of.node.0 ≡ c.args.node + 1 = ap (λ (n : NodeRef). n.0) c.in-Some.ensures.node in
+    source_known c.args.work.now.view.made c.in-Some.of.node.0 (omega (arith, at, c.requires.node))
 
 pub returns-in_default-root_of-clause-on : goal.returns-in_default-root_of-clause-on
 returns-in_default-root_of-clause-on c = c.root_of.ensures.kept.kept c.args.work.now (reads_itself c.args.work.now c.requires.own)

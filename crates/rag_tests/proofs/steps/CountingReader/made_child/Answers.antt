@@ -4,4 +4,4 @@ use Rattle.rag_tests.proofs.Counting.{by_naming, for_makers}
 use Rattle.rag_tests.proofs.steps.CountingReader.made_child.Goals as goal
 
 pub returns : goal.returns
-returns c = told_child (told_by c.args.self.now.makers.now) c.args.self.now.makers.now (for_makers c.args.self.now.makers.now) (by_naming c.args.self.now.makers.now) (λ k. tt) c.args.node c.args.component c.child.result c.child.ensures
+returns c = told_child (told_by c.args.self.now.makers.now) c.args.self.now.makers.now (for_makers c.args.self.now.makers.now) (by_naming c.args.self.now.makers.now) (λ k. tt) c.args.node c.args.component c.child_of.result c.child_of.ensures.child

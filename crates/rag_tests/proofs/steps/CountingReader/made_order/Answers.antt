@@ -4,4 +4,4 @@ use Rattle.rag_tests.proofs.Counting.{by_naming, for_makers}
 use Rattle.rag_tests.proofs.steps.CountingReader.made_order.Goals as goal
 
 pub returns : goal.returns
-returns c = told_order (told_by c.args.self.now.makers.now) c.args.self.now.makers.now (for_makers c.args.self.now.makers.now) (by_naming c.args.self.now.makers.now) (λ k. tt) c.args.a c.args.b c.order.result c.order.ensures
+returns c = told_order (told_by c.args.self.now.makers.now) c.args.self.now.makers.now (for_makers c.args.self.now.makers.now) (by_naming c.args.self.now.makers.now) (λ k. tt) c.args.a c.args.b c.order_of.result c.order_of.ensures.order
